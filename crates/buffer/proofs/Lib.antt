@@ -1,0 +1,4 @@
+pub mod Answered
+pub mod Pasted
+pub mod Printing
+pub mod Tallies

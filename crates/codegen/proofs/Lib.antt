@@ -1,0 +1,11 @@
+mod Crossing
+mod Tallies
+mod Told
+mod Steps
+mod Arms
+mod Cursor
+mod Advance
+mod Moves
+mod Texts
+mod Bound
+mod Kept

@@ -1,0 +1,6 @@
+pub mod Classes
+pub mod Turns
+pub mod Cursor
+pub mod Strings
+pub mod Laws
+pub mod Samples

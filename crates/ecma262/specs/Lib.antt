@@ -1,0 +1,5 @@
+pub mod Units
+pub mod Lookahead
+pub mod Literals
+pub mod Read
+pub mod Laws

@@ -1,0 +1,9 @@
+pub mod Rules
+pub mod Digits
+pub mod Front
+pub mod Reading
+pub mod Output
+pub mod Sizes
+pub mod Encoded
+pub mod Short
+pub mod Measured

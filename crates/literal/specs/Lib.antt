@@ -1,0 +1,5 @@
+pub mod Escapes
+pub mod Quiet
+pub mod Quotes
+pub mod Laws
+pub mod Samples
