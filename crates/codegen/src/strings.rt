@@ -71,12 +71,8 @@ pub fn string_size(options: CodegenOptions, text: &JSStr, allow_backtick: bool) 
     ensures is_the_literals_length { λ r. ⌜ r ≡ length (literalBytes options «allow_backtick» (vec-items (now (text .entry) .bytes))) ⌝ }
     ensures is_at_most_163842 { λ r. ⌜ r ≤ 163842 ⌝ }
 {
-    text_size(
-        text,
-        quote_asked(options),
-        allow_backtick,
-        options.ascii_only,
-    )
+    let quote = quote_asked(options);
+    text_size(text, quote, allow_backtick, options.ascii_only)
 }
 
 /// How many bytes `print_string_literal_as_template` prints.
@@ -104,13 +100,8 @@ pub fn print_string<B: CodeBuffer>(
     ensures it_is_ascii_under_ascii_only { λ _. ⌜ AsciiIfAsked (quoteOfText options «allow_backtick» (vec-items (now (text .entry) .bytes))) (options .«ascii_only») (vec-items (now (text .entry) .bytes)) ⌝ }
     ensures it_is_the_shortest_under_minify { λ _. ⌜ ShortestUnderMinify options «allow_backtick» (vec-items (now (text .entry) .bytes)) ⌝ }
 {
-    print_text(
-        code,
-        text,
-        quote_asked(options),
-        allow_backtick,
-        options.ascii_only,
-    )
+    let quote = quote_asked(options);
+    print_text(code, text, quote, allow_backtick, options.ascii_only)
 }
 
 /// Prints a text as a template literal, whole or not at all, whatever it holds.

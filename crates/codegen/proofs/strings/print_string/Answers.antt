@@ -11,7 +11,7 @@ returns g c =
     let o = c .args .options in
     let bytes = t .bytes .items in
     let q = quoteOfText o (c .args .allow-backtick) bytes in
-    let asked = ap (λ x. settled x (c .args .allow-backtick) bytes) (c .quote-asked .ensures) ∙ asked-for o (c .args .allow-backtick) bytes in
+    let asked = ap (λ x. settled x (c .args .allow-backtick) bytes) (c .quote-asked-quote .ensures) ∙ asked-for o (c .args .allow-backtick) bytes in
     record {
       prints-the-literal-whole-or-not-at-all = subst (λ x. Prints (g .B·CodeBuffer) (c .args .code .now) (c .print-text .last .code) (quoted x (o .«ascii_only») bytes) (c .print-text .result)) asked (c .print-text .ensures .prints);
       it-is-read-back-as-the-text = read-back bytes (t .lone) (t .good) q (o .«ascii_only»);

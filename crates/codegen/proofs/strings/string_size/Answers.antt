@@ -9,7 +9,7 @@ pub returns : need.returns
 returns c =
     let o = c .args .options in
     let bytes = c .args .text .now .bytes .items in
-    let asked = ap (λ x. settled x (c .args .allow-backtick) bytes) (c .quote-asked .ensures) ∙ asked-for o (c .args .allow-backtick) bytes in
+    let asked = ap (λ x. settled x (c .args .allow-backtick) bytes) (c .quote-asked-quote .ensures) ∙ asked-for o (c .args .allow-backtick) bytes in
     record {
       is-the-literals-length = c .text-size .ensures .is ∙ ap (λ q. length (quoted q (o .«ascii_only») bytes)) asked;
       is-at-most-163842 = c .text-size .ensures .small;
