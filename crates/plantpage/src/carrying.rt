@@ -4,10 +4,10 @@ ghost use Rattle.plantpage.specs.declared.carrying.HostFault.the-variants.{Tex
 ghost use Rattle.plantpage.specs.Answers.{tells, returned, callAnswer, heldAfter};
 ghost use Rattle.plantpage.specs.Items.{itemOf};
 ghost use Rattle.std.specs.Of.Vec.{vec-items};
+use crate::items::print_item;
 use buffer::BufferFault;
 use buffer::CodeBuffer;
 use codegen::CodegenOptions;
-use crate::items::print_item;
 use job::Call;
 use refusal::Refusal;
 use text::JSStr;
