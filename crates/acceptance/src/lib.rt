@@ -1,4 +1,4 @@
-//! Tests over several crates: the worked examples as they are run, the limits, and refusals that touch nothing.
+//! Tests over several crates: the worked examples as they are run, the limits, refusals that touch nothing (`tests`), and jobs (`jobs`).
 //!
 //! The examples are proved of the definitions too (`codegen::samples_hold`); here the code prints them.
 
@@ -58,5 +58,7 @@ pub fn print_in(out: &mut [u8], style: Style, text: &JSStr) -> Result<usize, usi
     }
 }
 
+#[cfg(test)]
+mod jobs;
 #[cfg(test)]
 mod tests;

@@ -17,18 +17,22 @@ mod hex;
 mod reading;
 mod settings;
 mod surrogates;
-#[cfg(test)]
-mod tests;
 mod words;
 
 pub use calls::Call;
 pub use calls::CallKind;
+pub use calls::CallKindDebug;
+pub use calls::CallKindPartialEq;
 pub use calls::Entry;
 pub use calls::Job;
 pub use calls::JobOptions;
+pub use calls::JobOptionsDebug;
+pub use calls::JobOptionsPartialEq;
 pub use faults::Expected;
 pub use faults::ExpectedDisplay;
 pub use faults::JobError;
+pub use faults::JobErrorDebug;
+pub use faults::JobErrorPartialEq;
 pub use faults::JobFault;
 pub use faults::JobFaultDisplay;
 pub use hex::hex_pair;

@@ -1,18 +1,18 @@
 //! Examples of jobs: one line of a table each.
-use crate::calls::CallKind;
-use crate::calls::CallKindDebug;
-use crate::calls::CallKindPartialEq;
-use crate::calls::JobOptions;
-use crate::calls::JobOptionsDebug;
-use crate::calls::JobOptionsPartialEq;
-use crate::faults::Expected;
-use crate::faults::JobError;
-use crate::faults::JobErrorDebug;
-use crate::faults::JobErrorPartialEq;
-use crate::faults::JobFault;
-use crate::faults::JobFaultDisplay;
-use crate::reading::read_job;
-use crate::surrogates::holds_surrogate;
+use job::CallKind;
+use job::CallKindDebug;
+use job::CallKindPartialEq;
+use job::JobOptions;
+use job::JobOptionsDebug;
+use job::JobOptionsPartialEq;
+use job::Expected;
+use job::JobError;
+use job::JobErrorDebug;
+use job::JobErrorPartialEq;
+use job::JobFault;
+use job::JobFaultDisplay;
+use job::read_job;
+use job::holds_surrogate;
 use std::alloc::Global;
 use std::test::*;
 
