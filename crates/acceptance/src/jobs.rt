@@ -2,17 +2,17 @@
 use job::CallKind;
 use job::CallKindDebug;
 use job::CallKindPartialEq;
-use job::JobOptions;
-use job::JobOptionsDebug;
-use job::JobOptionsPartialEq;
 use job::Expected;
 use job::JobError;
 use job::JobErrorDebug;
 use job::JobErrorPartialEq;
 use job::JobFault;
 use job::JobFaultDisplay;
-use job::read_job;
+use job::JobOptions;
+use job::JobOptionsDebug;
+use job::JobOptionsPartialEq;
 use job::holds_surrogate;
+use job::read_job;
 use std::alloc::Global;
 use std::test::*;
 

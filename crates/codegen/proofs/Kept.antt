@@ -4,7 +4,10 @@ use mathlib.Core.List.{List, [], _∷_, _++_}
 use mathlib.Core.Path.{_≡_, refl, sym, ap, subst, _∙_}
 use Prim.Native.Nat.{ℕ, _≤_}
 use lib.ListN.{length}
-use lib.Utf8.{encodes}
+use lib.Utf8.{encodes, scalar, scalars, scalar-cases}
+use mathlib.Core.Logic.{⊎-elim}
+use native.Mathlib.Omega.{arith}
+use Rattle.std.proofs.shelf.Tests.{and-parts}
 use Rattle.std.specs.shelf.Lists.{All}
 use Rattle.std.specs.declared.option.Option.{Option}
 use Rattle.std.specs.declared.option.Option.the-variants.{Some, None}
@@ -16,19 +19,33 @@ use Rattle.literal.specs.Laws.{Stands}
 use Rattle.literal.specs.Escapes.{literal}
 use Rattle.literal.specs.Quotes.{chosen, permitted}
 use Rattle.literal.proofs.Encoded.{stands}
+use Rattle.literal.proofs.Output.{all-scalar}
+use Rattle.text.specs.declared.well_formed.Encoding.the-variants.{Utf8}
+use Rattle.text.specs.Wtf8.{Barred, Points}
+use Rattle.text.proofs.Formed.{read}
 use Rattle.literal.proofs.Sizes.{shortest-chosen}
 use Rattle.text.specs.Answers.{textAnswer}
 use Rattle.text.specs.Sequence.{codePoints}
 use Rattle.codegen.specs.declared.options.CodegenOptions.{CodegenOptions}
 use Rattle.codegen.specs.Cursor.{settled}
 use Rattle.codegen.specs.Strings.{quoteAsked, quoteOfText, sourceText, quoted, literalBytes}
-use Rattle.codegen.specs.Laws.{textUnits, ReadBack, ReadOnce, NoScriptEnd, AsciiIfAsked, ShortestUnderMinify}
+use Rattle.codegen.specs.Laws.{textUnits, InUtf8, ReadBack, ReadOnce, NoScriptEnd, AsciiIfAsked, ShortestUnderMinify}
 use Rattle.codegen.specs.Turns.{Fine}
 use Rattle.codegen.proofs.Texts.{text-fits}
 
 all-points : (lone : Bool) (cs : List ℕ) → All (Fine lone) cs → Text cs
 all-points lone [] a = tt
 all-points lone (c ∷ cs) a = (a .0 .0, all-points lone cs (a .1))
+
+scalar-point : (before c : ℕ) → scalar c ≡ true → (c ≤ 0x10FFFF) × (Barred Utf8 before c → ⊥)
+scalar-point before c h = ⊎-elim (λ l. (omega arith, λ b. omega arith)) (λ g. (omega arith, λ b. omega arith)) (scalar-cases c h)
+
+all-scalars : (before : ℕ) (cs : List ℕ) → scalars cs ≡ true → Points Utf8 before cs
+all-scalars before [] h = tt
+all-scalars before (c ∷ cs) h =
+    let p = and-parts (scalar c) (scalars cs) h in
+    let q = scalar-point before c (p .0) in
+    (q .0, q .1, all-scalars c cs (p .1))
 
 module _ (bytes : List ℕ) (lone : Bool) (good : textAnswer bytes lone .number ≡ 0) where
   points : Text (codePoints bytes)
@@ -37,6 +54,13 @@ module _ (bytes : List ℕ) (lone : Bool) (good : textAnswer bytes lone .number 
   module _ (q : Quote) (ascii : Bool) where
     law : Stands q ascii (codePoints bytes)
     law = stands q ascii (codePoints bytes) points
+
+    source : Points Utf8 0 (sourceText q ascii bytes)
+    source = all-scalars 0 (sourceText q ascii bytes) (all-scalar q ascii (codePoints bytes) points)
+
+    pub in-utf8 : InUtf8 q ascii bytes
+    unfolding quoted
+    in-utf8 = ((sourceText q ascii bytes, source, refl), read Utf8 (sourceText q ascii bytes) source)
 
     pub read-back : ReadBack q ascii bytes
     read-back rest = law .denotes rest

@@ -11,7 +11,9 @@ use Rattle.ecma262.specs.Lookahead.{opens}
 use Rattle.ecma262.specs.Units.{units}
 use Rattle.literal.specs.Escapes.{tag}
 use Rattle.literal.specs.Quotes.{permitted}
+use Rattle.text.specs.declared.well_formed.Encoding.the-variants.{Utf8}
 use Rattle.text.specs.Sequence.{codePoints}
+use Rattle.text.specs.Wtf8.{WellFormed}
 use Rattle.codegen.specs.declared.options.CodegenOptions.{CodegenOptions}
 use Rattle.codegen.specs.Strings.{sourceText, quoted, literalBytes}
 
@@ -22,6 +24,10 @@ textUnits bytes = units (codePoints bytes)
 -- By ECMA-262 the literal is read as the text's units, whatever follows it.
 abbrev pub ReadBack : Quote → Bool → List ℕ → Type 0
 ReadBack q ascii bytes = (rest : List ℕ) → Literal q (sourceText q ascii bytes ++ rest) rest (textUnits bytes)
+
+-- The bytes that are printed are UTF-8, and read as the literal's source text.
+abbrev pub InUtf8 : Quote → Bool → List ℕ → Type 0
+InUtf8 q ascii bytes = WellFormed Utf8 (quoted q ascii bytes) × (codePoints (quoted q ascii bytes) ≡ sourceText q ascii bytes)
 
 -- It is read in no other way.
 abbrev pub ReadOnce : Quote → Bool → List ℕ → Type 0

@@ -8,6 +8,7 @@ ghost use lib.Utf8.{encodes};
 ghost use Rattle.ecma262.specs.declared.Quote.the-variants.{Single, Double, Backtick};
 ghost use Rattle.literal.specs.Quotes.{chosen};
 ghost use Rattle.text.specs.Sequence.{codePoints};
+use crate::turn::OPENING_BRACE;
 use ecma262::Quote;
 use text::byte_at;
 
@@ -43,7 +44,7 @@ fn with_byte(costs: Costs, b: u8, next: u32) -> Costs
             costs.backtick += 1;
         }
         b'$' => {
-            if next == 0x7B {
+            if next == OPENING_BRACE {
                 costs.backtick += 1;
             }
         }

@@ -153,7 +153,7 @@ pub fn literal_size(
     requires fit { ⌜ Fit (escaping .lone) (now bytes) ⌝ }
     requires small { ⌜ length (now bytes) ≤ 16384 ⌝ }
     ensures is { λ r. ⌜ r ≡ length (quoted (settled quote «allow_backtick» (now (bytes .entry))) (escaping .entry .«ascii_only») (now (bytes .entry))) ⌝ }
-    ensures small { λ r. ⌜ r ≤ 163842 ⌝ }
+    ensures small { λ r. ⌜ r ≤ 65538 ⌝ }
 {
     let q = settled_quote(quote, allow_backtick, bytes);
     body_size(escaping, q, bytes) + 2

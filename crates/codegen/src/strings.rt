@@ -7,7 +7,7 @@ ghost use Rattle.ecma262.specs.declared.Quote.the-variants.{Backtick};
 ghost use Rattle.buffer.specs.Printing.{Prints};
 ghost use Rattle.codegen.specs.Cursor.{settled};
 ghost use Rattle.codegen.specs.Strings.{quoteAsked, quoted, quoteOfText, literalBytes};
-ghost use Rattle.codegen.specs.Laws.{ReadBack, ReadOnce, NoScriptEnd, AsciiIfAsked, ShortestUnderMinify};
+ghost use Rattle.codegen.specs.Laws.{InUtf8, ReadBack, ReadOnce, NoScriptEnd, AsciiIfAsked, ShortestUnderMinify};
 ghost use Rattle.codegen.specs.Samples.{Samples};
 use crate::escape::own_table;
 use crate::escape::table_or_escapes;
@@ -54,7 +54,7 @@ fn print_text<B: CodeBuffer>(
 
 fn text_size(text: &JSStr, quote: Option<Quote>, allow_backtick: bool, ascii_only: bool) -> usize
     ensures is { λ r. ⌜ r ≡ length (quoted (settled quote «allow_backtick» (vec-items (now (text .entry) .bytes))) «ascii_only» (vec-items (now (text .entry) .bytes))) ⌝ }
-    ensures small { λ r. ⌜ r ≤ 163842 ⌝ }
+    ensures small { λ r. ⌜ r ≤ 65538 ⌝ }
 {
     let lone = text.has_lone_surrogate();
     let own = own_table(ascii_only, lone);
@@ -69,7 +69,7 @@ fn text_size(text: &JSStr, quote: Option<Quote>, allow_backtick: bool, ascii_onl
 /// How many bytes `print_string` prints.
 pub fn string_size(options: CodegenOptions, text: &JSStr, allow_backtick: bool) -> usize
     ensures is_the_literals_length { λ r. ⌜ r ≡ length (literalBytes options «allow_backtick» (vec-items (now (text .entry) .bytes))) ⌝ }
-    ensures is_at_most_163842 { λ r. ⌜ r ≤ 163842 ⌝ }
+    ensures is_at_most_65538 { λ r. ⌜ r ≤ 65538 ⌝ }
 {
     let quote = quote_asked(options);
     text_size(text, quote, allow_backtick, options.ascii_only)
@@ -78,7 +78,7 @@ pub fn string_size(options: CodegenOptions, text: &JSStr, allow_backtick: bool) 
 /// How many bytes `print_string_literal_as_template` prints.
 pub fn template_size(options: CodegenOptions, text: &JSStr) -> usize
     ensures is_the_templates_length { λ r. ⌜ r ≡ length (quoted Backtick (options .«ascii_only») (vec-items (now (text .entry) .bytes))) ⌝ }
-    ensures is_at_most_163842 { λ r. ⌜ r ≤ 163842 ⌝ }
+    ensures is_at_most_65538 { λ r. ⌜ r ≤ 65538 ⌝ }
 {
     text_size(text, Some(Quote::Backtick), true, options.ascii_only)
 }
@@ -94,6 +94,7 @@ pub fn print_string<B: CodeBuffer>(
     allow_backtick: bool,
 ) -> Result<(), BufferFault>
     ensures prints_the_literal_whole_or_not_at_all { λ r. ⌜ Prints B·CodeBuffer (now (code .entry)) (now (code .exit)) (literalBytes options «allow_backtick» (vec-items (now (text .entry) .bytes))) r ⌝ }
+    ensures it_is_utf8 { λ _. ⌜ InUtf8 (quoteOfText options «allow_backtick» (vec-items (now (text .entry) .bytes))) (options .«ascii_only») (vec-items (now (text .entry) .bytes)) ⌝ }
     ensures it_is_read_back_as_the_text { λ _. ⌜ ReadBack (quoteOfText options «allow_backtick» (vec-items (now (text .entry) .bytes))) (options .«ascii_only») (vec-items (now (text .entry) .bytes)) ⌝ }
     ensures it_is_read_in_no_other_way { λ _. ⌜ ReadOnce (quoteOfText options «allow_backtick» (vec-items (now (text .entry) .bytes))) (options .«ascii_only») (vec-items (now (text .entry) .bytes)) ⌝ }
     ensures it_never_closes_a_script { λ _. ⌜ NoScriptEnd (quoteOfText options «allow_backtick» (vec-items (now (text .entry) .bytes))) (options .«ascii_only») (vec-items (now (text .entry) .bytes)) ⌝ }
@@ -111,6 +112,7 @@ pub fn print_string_literal_as_template<B: CodeBuffer>(
     text: &JSStr,
 ) -> Result<(), BufferFault>
     ensures prints_the_template_whole_or_not_at_all { λ r. ⌜ Prints B·CodeBuffer (now (code .entry)) (now (code .exit)) (quoted Backtick (options .«ascii_only») (vec-items (now (text .entry) .bytes))) r ⌝ }
+    ensures it_is_utf8 { λ _. ⌜ InUtf8 Backtick (options .«ascii_only») (vec-items (now (text .entry) .bytes)) ⌝ }
     ensures it_is_read_back_as_the_text { λ _. ⌜ ReadBack Backtick (options .«ascii_only») (vec-items (now (text .entry) .bytes)) ⌝ }
     ensures it_is_read_in_no_other_way { λ _. ⌜ ReadOnce Backtick (options .«ascii_only») (vec-items (now (text .entry) .bytes)) ⌝ }
     ensures it_never_closes_a_script { λ _. ⌜ NoScriptEnd Backtick (options .«ascii_only») (vec-items (now (text .entry) .bytes)) ⌝ }

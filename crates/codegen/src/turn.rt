@@ -4,7 +4,7 @@ ghost use mathlib.Core.Bool.{_&&_, _||_, cond};
 ghost use Prim.Native.Nat.{ℕ, _+_, _<_, _≤_};
 ghost use lib.ListN.{length, getD, drop};
 ghost use Rattle.std.specs.declared.option.Option.the-variants.{Some, None};
-ghost use Rattle.ecma262.specs.Lookahead.{opens};
+ghost use Rattle.ecma262.specs.Lookahead.{opens, digit};
 ghost use Rattle.ecma262.specs.Units.{mark};
 ghost use Rattle.literal.specs.Escapes.{script, isBacktick, sameLetter, tag};
 ghost use Rattle.codegen.specs.Classes.{classIn, tableOf, shortOf, wideOf, decides};
@@ -16,6 +16,18 @@ use literal::HexCase;
 use text::byte_at;
 use text::decode;
 use text::sequence_length;
+
+/// `{`, which makes a `$` before it begin a substitution.
+pub const OPENING_BRACE: u32 = 0x7B;
+
+/// U+00A0.
+const NBSP: u32 = 0xA0;
+
+/// U+2028.
+const LINE_SEPARATOR: u32 = 0x2028;
+
+/// U+2029.
+const PARAGRAPH_SEPARATOR: u32 = 0x2029;
 
 /// What is done at a place of the text.
 #[derive(Clone, Copy)]
@@ -57,6 +69,12 @@ fn is_backtick(q: Quote) -> bool
     }
 }
 
+fn is_ascii_digit(b: u32) -> bool
+    ensures { λ r. ⌜ r ≡ digit b ⌝ }
+{
+    b >= 0x30 && b <= 0x39
+}
+
 fn some_if(t: bool, e: EscapeSequence) -> Option<EscapeSequence>
     ensures { λ r. ⌜ r ≡ cond t (Some e) None ⌝ }
 {
@@ -69,7 +87,7 @@ fn short_escape(q: Quote, escape: Escape, next: u32) -> Option<EscapeSequence>
 {
     match escape {
         Escape::No => None,
-        Escape::NU => Some(if next >= 0x30 && next <= 0x39 {
+        Escape::NU => Some(if is_ascii_digit(next) {
             EscapeSequence::Hex
         } else {
             EscapeSequence::Null
@@ -86,7 +104,7 @@ fn short_escape(q: Quote, escape: Escape, next: u32) -> Option<EscapeSequence>
         Escape::DQ => some_if(quote_byte(q) == b'"', EscapeSequence::Character(b'"')),
         Escape::BQ => some_if(is_backtick(q), EscapeSequence::Character(b'`')),
         Escape::DO => some_if(
-            is_backtick(q) && next == 0x7B,
+            is_backtick(q) && next == OPENING_BRACE,
             EscapeSequence::Character(b'$'),
         ),
         Escape::LT => None,
@@ -111,9 +129,9 @@ fn wide_escape(ascii_only: bool, c: u32) -> Option<EscapeSequence>
         }
     } else {
         match c {
-            0xA0 => Some(EscapeSequence::Hex),
-            0x2028 => Some(EscapeSequence::Unicode(HexCase::Upper)),
-            0x2029 => Some(EscapeSequence::Unicode(HexCase::Upper)),
+            NBSP => Some(EscapeSequence::Hex),
+            LINE_SEPARATOR => Some(EscapeSequence::Unicode(HexCase::Upper)),
+            PARAGRAPH_SEPARATOR => Some(EscapeSequence::Unicode(HexCase::Upper)),
             _ => None,
         }
     }
@@ -180,7 +198,7 @@ pub fn quote_decides(escaping: Escaping, bytes: &[u8], at: usize) -> bool
 {
     match escape_at(escaping, bytes, at) {
         Escape::NL | Escape::SQ | Escape::DQ | Escape::BQ => true,
-        Escape::DO => byte_at(bytes, at + 1) == 0x7B,
+        Escape::DO => byte_at(bytes, at + 1) == OPENING_BRACE,
         _ => false,
     }
 }

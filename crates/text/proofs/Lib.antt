@@ -5,3 +5,4 @@ pub mod Walked
 pub mod Formed
 pub mod Turn
 pub mod Named
+pub mod Ruled

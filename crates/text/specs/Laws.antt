@@ -10,6 +10,7 @@ use Rattle.std.specs.declared.option.Option.{Option}
 use Rattle.std.specs.declared.option.Option.the-variants.{Some, None}
 use Rattle.text.specs.declared.well_formed.Encoding.{Encoding}
 use Rattle.text.specs.Wtf8.{Points, WellFormed, Breach}
+use Rattle.text.specs.Names.{nameBreach, IsName, NameBreach}
 use Rattle.text.specs.Sequence.{sequence, breach, marked, surrogates, codePoints}
 
 -- Bytes have no breach exactly if they are well formed.
@@ -44,3 +45,10 @@ Marked = (encoding : Encoding) (cs : List ℕ) → Points encoding 0 cs → mark
 -- Bytes are read as the code points that they encode.
 abbrev pub Read : Type 0
 Read = (encoding : Encoding) (cs : List ℕ) → Points encoding 0 cs → codePoints (encodes cs) ≡ cs
+
+-- Code points have no breach of the rule of names exactly if they are a name; and the place is that of the first breach, and of nothing else.
+abbrev pub Named : Type 0
+Named = (text : List ℕ) → (nameBreach text ≡ None → IsName text) × (IsName text → nameBreach text ≡ None)
+
+abbrev pub NamePlaced : Type 0
+NamePlaced = (text : List ℕ) (place : ℕ) → (nameBreach text ≡ Some place → NameBreach text place) × (NameBreach text place → nameBreach text ≡ Some place)

@@ -33,3 +33,35 @@ stopsAt at (c ∷ cs) = cond (continuesName c) (stopsAt (at + width c) cs) (Some
 abbrev pub nameBreach : List ℕ → Option ℕ
 nameBreach [] = Some 0
 nameBreach (c ∷ cs) = cond (startsName c) (stopsAt (width c) cs) (Some 0)
+
+-- The rule as a relation.
+
+abbrev pub Continues : List ℕ → Type 0
+Continues [] = Unit {0}
+Continues (c ∷ cs) = (continuesName c ≡ true) × Continues cs
+
+-- characters that a name may begin with: none, or one that may stand first and others that may stand behind it
+abbrev pub KeepsRule : List ℕ → Type 0
+KeepsRule [] = Unit {0}
+KeepsRule (c ∷ cs) = (startsName c ≡ true) × Continues cs
+
+-- a name: such characters, and at least one
+abbrev pub IsName : List ℕ → Type 0
+IsName [] = ⊥
+IsName (c ∷ cs) = KeepsRule (c ∷ cs)
+
+-- what stands behind good breaks the rule: its first character does, or there is no character at all
+abbrev pub BreaksRule : List ℕ → List ℕ → Type 0
+BreaksRule [] [] = Unit {0}
+BreaksRule [] (c ∷ cs) = startsName c ≡ false
+BreaksRule (b ∷ good) [] = ⊥
+BreaksRule (b ∷ good) (c ∷ cs) = continuesName c ≡ false
+
+-- the first breach of the rule, with its place in bytes
+pub record NameBreach (text : List ℕ) (place : ℕ) : Type 0 where
+  pub good : List ℕ
+  pub rest : List ℕ
+  pub keeps : KeepsRule good
+  pub parts : text ≡ good ++ rest
+  pub here : length (encodes good) ≡ place
+  pub breaks : BreaksRule good rest

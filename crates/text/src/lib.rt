@@ -18,6 +18,7 @@ pub mod well_formed;
 pub use fault::TextFault;
 pub use js_str::JSStr;
 pub use names::Name;
+pub use names::names_keep_the_rule;
 pub use raw_text::RawText;
 pub use sequence::byte_at;
 pub use sequence::decode;

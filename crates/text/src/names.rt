@@ -5,6 +5,7 @@ ghost use Rattle.std.specs.Vec.{made};
 ghost use Rattle.std.specs.declared.option.Option.the-variants.{None};
 ghost use Rattle.text.specs.declared.well_formed.Encoding.the-variants.{Utf8};
 ghost use Rattle.text.specs.Answers.{returned, nameAnswer};
+ghost use Rattle.text.specs.Laws.{Named, NamePlaced};
 ghost use Rattle.text.specs.Names.{startsName, continuesName, nameBreach};
 ghost use Rattle.text.specs.Sequence.{breach, codePoints};
 use crate::fault::TextFault;
@@ -86,3 +87,9 @@ impl Name {
         self.bytes.as_slice()
     }
 }
+
+/// The rule of names, as the maker goes by it, is the relation; and its place is that of the first breach.
+pub fn names_keep_the_rule()
+    ensures accepts_exactly_the_names { λ _. ⌜ Named ⌝ }
+    ensures place_is_the_first_breach { λ _. ⌜ NamePlaced ⌝ }
+{}

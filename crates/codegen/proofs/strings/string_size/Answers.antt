@@ -12,5 +12,5 @@ returns c =
     let asked = ap (λ x. settled x (c .args .allow-backtick) bytes) (c .quote-asked-quote .ensures) ∙ asked-for o (c .args .allow-backtick) bytes in
     record {
       is-the-literals-length = c .text-size .ensures .is ∙ ap (λ q. length (quoted q (o .«ascii_only») bytes)) asked;
-      is-at-most-163842 = c .text-size .ensures .small;
+      is-at-most-65538 = c .text-size .ensures .small;
     }
