@@ -11,9 +11,9 @@ use Rattle.std.specs.declared.result.Result.the-variants.{Ok, Err}
 use Rattle.buffer.specs.declared.code_buffer.BufferFault.{BufferFault}
 use Rattle.buffer.specs.declared.code_buffer.BufferFault.the-variants.{Full}
 use Rattle.buffer.specs.declared.code_buffer.CodeBuffer.{Ghosts}
-use Rattle.buffer.specs.Meaning.{print-answer, printed}
+use Rattle.buffer.specs.Meaning.{print-answer, printed, accepted}
 use Rattle.buffer.specs.Printing.{Prints, Appends}
-use Rattle.buffer.proofs.Answered.{answer-fits, printed-fits, answer-past, printed-past, ok-fits}
+use Rattle.buffer.proofs.Answered.{answer-fits, printed-fits, accepted-fits, answer-past, printed-past, accepted-past, ok-fits}
 
 -- what is equal from a place on is equal from a later place on
 pub same-further : (n k : ℕ) (xs ys : List ℕ) → n ≤ k → drop n xs ≡ drop n ys → drop k xs ≡ drop k ys
@@ -30,6 +30,7 @@ module _ {S : Type 0} (m : Ghosts S) where
         limit-stays : m .«limit_of» exit ≡ m .«limit_of» entry;
         beyond-is-untouched : drop (length (m .bytes exit)) (m .memory exit) ≡ drop (length (m .bytes exit)) (m .memory entry);
         home-stays : m .home exit ≡ m .home entry;
+        notes-what-was-appended : m .noted entry exit (accepted (m .bytes entry) (m .«limit_of» entry) text);
       }
       → Prints m entry exit text answer
   print-prints entry exit text answer ensured = record {
@@ -38,12 +39,22 @@ module _ {S : Type 0} (m : Ghosts S) where
     limit-stays = ensured .limit-stays;
     beyond-untouched = ensured .beyond-is-untouched;
     home-stays = ensured .home-stays;
+    noted = ensured .notes-what-was-appended;
   }
 
   -- nothing was printed
 
   pub appends-nothing : (b : S) → Appends m b b []
-  appends-nothing b = record { appends = sym (append-nil (m .bytes b)); limit-stays = refl; beyond-untouched = refl; home-stays = refl }
+  appends-nothing b = record {
+    appends = sym (append-nil (m .bytes b));
+    limit-stays = refl;
+    beyond-untouched = refl;
+    home-stays = refl;
+    noted = m .notes .nothing b;
+  }
+
+  pub refused-notes : (b : S) (text : List ℕ) → m .«limit_of» b < length (m .bytes b) + length text → m .noted b b (accepted (m .bytes b) (m .«limit_of» b) text)
+  refused-notes b text past = subst (m .noted b b) (sym (accepted-past (m .bytes b) (m .«limit_of» b) text past)) (m .notes .nothing b)
 
   pub refused-prints : (b : S) (text : List ℕ) (need : ℕ) → need ≡ length (m .bytes b) + length text → m .«limit_of» b < need
       → Prints m b b text (Err (Full need))
@@ -55,6 +66,7 @@ module _ {S : Type 0} (m : Ghosts S) where
         limit-stays = refl;
         beyond-untouched = refl;
         home-stays = refl;
+        noted = refused-notes b text too-long;
       }
 
   -- a print with room is an append, and the other way round
@@ -66,6 +78,7 @@ module _ {S : Type 0} (m : Ghosts S) where
     limit-stays = p .limit-stays;
     beyond-untouched = p .beyond-untouched;
     home-stays = p .home-stays;
+    noted = subst (m .noted a b) (accepted-fits (m .bytes a) (m .«limit_of» a) text room) (p .noted);
   }
 
   pub ok-with-room : {a b : S} {text : List ℕ} {answer : Result Unit BufferFault} → Prints m a b text answer
@@ -84,6 +97,7 @@ module _ {S : Type 0} (m : Ghosts S) where
     limit-stays = p .limit-stays;
     beyond-untouched = p .beyond-untouched;
     home-stays = p .home-stays;
+    noted = subst (m .noted a b) (sym (accepted-fits (m .bytes a) (m .«limit_of» a) text room)) (p .noted);
   }
 
   pub prints-nothing : (b : S) → Prints m b b [] (Ok tt)
@@ -99,6 +113,7 @@ module _ {S : Type 0} (m : Ghosts S) where
         limit-stays = q .limit-stays ∙ p .limit-stays;
         beyond-untouched = q .beyond-untouched ∙ same-further (length (m .bytes b)) (length (m .bytes c)) (m .memory b) (m .memory a) (omega arith) (p .beyond-untouched);
         home-stays = q .home-stays ∙ p .home-stays;
+        noted = m .notes .joined a b c s t (p .noted) (q .noted);
       }
 
   -- how much is held after an append

@@ -7,11 +7,8 @@ use native.Mathlib.Nat.{add-zero, zero-add}
 use native.Mathlib.Omega.{arith}
 use lib.Dec.{eqb}
 use lib.ListN.{length}
+use Rattle.buffer.specs.KindsNote.{tally-join}
 use Rattle.buffer.specs.Tally.{Tally, tally, tally-of, nothing-yet, line-feeds-in, has-line-feed, after-last-line-feed, TallyIsPlainCounts}
-
-pub tally-join : (t : Tally) (first second : List ℕ) → tally (tally t first) second ≡ tally t (first ++ second)
-tally-join t [] second = refl
-tally-join t (b ∷ bs) second = tally-join (cond (eqb b 10) (tally-of (t .line-feeds + 1) 0) (tally-of (t .line-feeds) (t .column + 1))) bs second
 
 pub feeds-from : (t : Tally) (text : List ℕ) → tally t text .line-feeds ≡ t .line-feeds + line-feeds-in text
 feeds-from t [] = sym (add-zero (t .line-feeds))

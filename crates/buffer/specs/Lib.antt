@@ -1,6 +1,7 @@
 pub mod Faults
 pub mod Kinds
 pub mod KindsAreLawful
+pub mod KindsNote
 pub mod Laws
 pub mod Meaning
 pub mod Printing

@@ -6,7 +6,7 @@ use lib.ListN.{length, drop}
 use Rattle.std.specs.declared.result.Result.{Result}
 use Rattle.buffer.specs.declared.code_buffer.BufferFault.{BufferFault}
 use Rattle.buffer.specs.declared.code_buffer.CodeBuffer.{Ghosts}
-use Rattle.buffer.specs.Meaning.{print-answer, printed}
+use Rattle.buffer.specs.Meaning.{print-answer, printed, accepted}
 
 -- the text was printed as one: appended whole, or refused whole
 pub record Prints {S : Type 0} (m : Ghosts S) (entry exit : S) (text : List ℕ) (answer : Result Unit BufferFault) : Type 0 where
@@ -15,6 +15,7 @@ pub record Prints {S : Type 0} (m : Ghosts S) (entry exit : S) (text : List ℕ)
   pub limit-stays : m .«limit_of» exit ≡ m .«limit_of» entry
   pub beyond-untouched : drop (length (m .bytes exit)) (m .memory exit) ≡ drop (length (m .bytes exit)) (m .memory entry)
   pub home-stays : m .home exit ≡ m .home entry
+  pub noted : m .noted entry exit (accepted (m .bytes entry) (m .«limit_of» entry) text)
 
 -- the text was appended, where it is known that there is room
 pub record Appends {S : Type 0} (m : Ghosts S) (entry exit : S) (text : List ℕ) : Type 0 where
@@ -22,3 +23,4 @@ pub record Appends {S : Type 0} (m : Ghosts S) (entry exit : S) (text : List ℕ
   pub limit-stays : m .«limit_of» exit ≡ m .«limit_of» entry
   pub beyond-untouched : drop (length (m .bytes exit)) (m .memory exit) ≡ drop (length (m .bytes exit)) (m .memory entry)
   pub home-stays : m .home exit ≡ m .home entry
+  pub noted : m .noted entry exit text

@@ -6,8 +6,8 @@ ghost use lib.ListN.{length, drop};
 ghost use denote.Ref.{now};
 ghost use base.Fml.{GName};
 ghost use Rattle.buffer.specs.Faults.{tells};
-ghost use Rattle.buffer.specs.Laws.{Lawful};
-ghost use Rattle.buffer.specs.Meaning.{print-answer, printed};
+ghost use Rattle.buffer.specs.Laws.{Lawful, Noting};
+ghost use Rattle.buffer.specs.Meaning.{print-answer, printed, accepted};
 use refusal::Layer;
 use refusal::Refusal;
 
@@ -52,6 +52,11 @@ pub trait CodeBuffer {
 
     ghost laws: { Lawful bytes «limit_of» };
 
+    // What its layers note of the bytes that were appended between two states.
+    ghost noted: { Self → Self → List ℕ → Type 0 };
+
+    ghost notes: { Noting noted };
+
     /// How many bytes it holds.
     fn held(&self) -> usize
         ensures answers_how_many_bytes_it_holds { λ r. ⌜ r ≡ length (bytes (now (self .entry))) ⌝ };
@@ -66,5 +71,6 @@ pub trait CodeBuffer {
         ensures appends_all_or_nothing { λ r. ⌜ bytes (now (self .exit)) ≡ printed (bytes (now (self .entry))) («limit_of» (now (self .entry))) (now (text .entry)) ⌝ }
         ensures limit_stays { λ r. ⌜ «limit_of» (now (self .exit)) ≡ «limit_of» (now (self .entry)) ⌝ }
         ensures beyond_is_untouched { λ r. ⌜ drop (length (bytes (now (self .exit)))) (memory (now (self .exit))) ≡ drop (length (bytes (now (self .exit)))) (memory (now (self .entry))) ⌝ }
-        ensures home_stays { λ r. ⌜ home (now (self .exit)) ≡ home (now (self .entry)) ⌝ };
+        ensures home_stays { λ r. ⌜ home (now (self .exit)) ≡ home (now (self .entry)) ⌝ }
+        ensures notes_what_was_appended { λ r. ⌜ noted (now (self .entry)) (now (self .exit)) (accepted (bytes (now (self .entry))) («limit_of» (now (self .entry))) (now (text .entry))) ⌝ };
 }

@@ -1,11 +1,11 @@
 //! A layer that counts the lines and columns of what is printed through it.
 ghost use Prim.Native.Nat.{_+_, _≤_};
 ghost use mathlib.Core.Path.{_≡_};
-ghost use lib.ListN.{length, drop};
+ghost use lib.ListN.{length};
 ghost use Rattle.buffer.specs.KindsAreLawful.{layer-lawful};
-ghost use Rattle.buffer.specs.Meaning.{print-answer, printed, accepted};
+ghost use Rattle.buffer.specs.KindsNote.{watch-notes};
 ghost use Rattle.buffer.specs.Tally.{tally, tally-of, nothing-yet, TallyIsPlainCounts};
-ghost use Rattle.buffer.specs.Watching.{counts};
+ghost use Rattle.buffer.specs.Watching.{counts, Watched};
 use super::code_buffer::BufferFault;
 use super::code_buffer::CodeBuffer;
 
@@ -29,6 +29,11 @@ pub impl<B: CodeBuffer> CodeBuffer for LineWatch<B> as LineWatchCodeBuffer {
 
     ghost laws = { layer-lawful (λ w. w .below) (B·CodeBuffer .laws) };
 
+    // Its counts go on by the bytes that were appended.
+    ghost noted = { Watched B·CodeBuffer };
+
+    ghost notes = { watch-notes B·CodeBuffer };
+
     fn held(&self) -> usize {
         self.below.held()
     }
@@ -37,14 +42,7 @@ pub impl<B: CodeBuffer> CodeBuffer for LineWatch<B> as LineWatchCodeBuffer {
         self.below.limit()
     }
 
-    fn print(&mut self, text: &[u8]) -> Result<(), BufferFault>
-        ensures answers_seven_with_the_need { λ r. ⌜ r ≡ print-answer (bytes (now (self .entry) .below)) («limit_of» (now (self .entry) .below)) (now (text .entry)) ⌝ }
-        ensures appends_all_or_nothing { λ r. ⌜ bytes (now (self .exit) .below) ≡ printed (bytes (now (self .entry) .below)) («limit_of» (now (self .entry) .below)) (now (text .entry)) ⌝ }
-        ensures limit_stays { λ r. ⌜ «limit_of» (now (self .exit) .below) ≡ «limit_of» (now (self .entry) .below) ⌝ }
-        ensures beyond_is_untouched { λ r. ⌜ drop (length (bytes (now (self .exit) .below))) (memory (now (self .exit) .below)) ≡ drop (length (bytes (now (self .exit) .below))) (memory (now (self .entry) .below)) ⌝ }
-        ensures home_stays { λ r. ⌜ home (now (self .exit) .below) ≡ home (now (self .entry) .below) ⌝ }
-        ensures counts_what_was_appended { λ r. ⌜ counts B·CodeBuffer (now (self .exit)) ≡ tally (counts B·CodeBuffer (now (self .entry))) (accepted (bytes (now (self .entry) .below)) («limit_of» (now (self .entry) .below)) (now (text .entry))) ⌝ }
-    {
+    fn print(&mut self, text: &[u8]) -> Result<(), BufferFault> {
         let lines = self.line_feeds();
         let column = self.column();
         self.below.print(text)?;

@@ -4,6 +4,7 @@ ghost use mathlib.Core.Path.{_≡_};
 ghost use mathlib.Core.List.{[]};
 ghost use lib.ListN.{length, take};
 ghost use Rattle.buffer.specs.Kinds.{owned-limit, owned-bytes};
+ghost use Rattle.buffer.specs.KindsNote.{notes-nothing};
 ghost use Rattle.buffer.specs.KindsAreLawful.{owned-within, owned-bounded};
 use super::code_buffer::BufferFault;
 use super::code_buffer::CodeBuffer;
@@ -29,6 +30,10 @@ pub impl CodeBuffer for OwnedBuffer as OwnedCodeBuffer {
     ghost home = { λ b. 0 };
 
     ghost laws = { record { within = λ b. owned-within (b .used) (b .cells) (b .fits); bounded = λ b. owned-bounded } };
+
+    ghost noted = { λ a b s. Unit {0} };
+
+    ghost notes = { notes-nothing };
 
     fn held(&self) -> usize {
         self.used

@@ -3,6 +3,7 @@ ghost use mathlib.Core.Path.{_≡_};
 ghost use lib.ListN.{length};
 ghost use Rattle.buffer.specs.Kinds.{quota-limit};
 ghost use Rattle.buffer.specs.KindsAreLawful.{quota-lawful};
+ghost use Rattle.buffer.specs.KindsNote.{layer-notes};
 use super::code_buffer::BufferFault;
 use super::code_buffer::CodeBuffer;
 
@@ -22,6 +23,10 @@ pub impl<B: CodeBuffer> CodeBuffer for Quota<B> as QuotaCodeBuffer {
     ghost home = { λ q. B·CodeBuffer .home (q .below) };
 
     ghost laws = { quota-lawful (λ q. q .below) (λ q. q .quota) (B·CodeBuffer .laws) };
+
+    ghost noted = { λ a b s. B·CodeBuffer .noted (a .below) (b .below) s };
+
+    ghost notes = { layer-notes (λ q. q .below) (B·CodeBuffer .notes) };
 
     fn held(&self) -> usize {
         self.below.held()

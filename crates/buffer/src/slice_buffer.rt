@@ -4,6 +4,7 @@ ghost use mathlib.Core.List.{[]};
 ghost use lib.ListN.{length, take};
 ghost use denote.Ref.{now, name};
 ghost use Rattle.buffer.specs.Kinds.{slice-limit, slice-bytes};
+ghost use Rattle.buffer.specs.KindsNote.{notes-nothing};
 ghost use Rattle.buffer.specs.KindsAreLawful.{slice-within, slice-bounded};
 use super::code_buffer::BufferFault;
 use super::code_buffer::CodeBuffer;
@@ -28,6 +29,10 @@ pub impl<'a> CodeBuffer for SliceBuffer<'a> as SliceCodeBuffer {
     ghost home = { λ b. name (b .cells) };
 
     ghost laws = { record { within = λ b. slice-within (b .used) (now (b .cells)); bounded = λ b. slice-bounded (now (b .cells)) } };
+
+    ghost noted = { λ a b s. Unit {0} };
+
+    ghost notes = { notes-nothing };
 
     fn held(&self) -> usize {
         self.used.min(self.limit())

@@ -82,3 +82,13 @@ fn the_column_goes_on_over_prints() -> Result<(), Fail> {
     let _ = code.into_inner().finish();
     check_eq((first, last), ((0, 3), (2, 3)))
 }
+
+#[test]
+fn a_watch_counts_what_comes_through_a_quota() -> Result<(), Fail> {
+    let mut code = Quota::new(LineWatch::new(OwnedBuffer::new()), 5);
+    let told = (need(code.print(b"a\nbc")), need(code.print(b"\n\n")));
+    let watch = code.into_inner();
+    let counts = (watch.line_feeds(), watch.column());
+    let _ = watch.into_inner().finish();
+    check_eq((told, counts), ((0, 6), (1, 2)))
+}

@@ -30,8 +30,11 @@ returns g c =
       limit-stays = c .print .ensures .limit-stays;
       beyond-is-untouched = c .print .ensures .beyond-is-untouched;
       home-stays = c .print .ensures .home-stays;
-      counts-what-was-appended =
-          (λ i. tally-of (all-lines i) (all-column i))
-          ∙ c .tallied-lines .ensures .counts-on
-          ∙ (λ i. tally (tally-of (was-lines i) (was-column i)) (sym (accepted-fits held limit text room) i));
+      notes-what-was-appended = record {
+        counts-what-was-appended =
+            (λ i. tally-of (all-lines i) (all-column i))
+            ∙ c .tallied-lines .ensures .counts-on
+            ∙ (λ i. tally (tally-of (was-lines i) (was-column i)) (sym (accepted-fits held limit text room) i));
+        noted-below = c .print .ensures .notes-what-was-appended;
+      };
     }

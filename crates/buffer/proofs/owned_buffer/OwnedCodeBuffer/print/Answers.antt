@@ -21,4 +21,5 @@ returns c =
       limit-stays = refl;
       beyond-is-untouched = beyond cells text _ used owned-limit inv room top;
       home-stays = refl;
+      notes-what-was-appended = tt;
     }

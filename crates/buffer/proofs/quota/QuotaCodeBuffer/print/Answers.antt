@@ -1,10 +1,10 @@
-use mathlib.Core.Path.{_≡_, sym, ap, _∙_}
+use mathlib.Core.Path.{_≡_, sym, ap, subst, _∙_}
 use Prim.Native.Nat.{_+_, _≤_}
 use native.Mathlib.Omega.{arith}
 use mathlib.Core.List.{_++_}
 use lib.ListN.{length, length-append}
 use Rattle.buffer.specs.Kinds.{quota-limit}
-use Rattle.buffer.proofs.Answered.{answer-fits, printed-fits}
+use Rattle.buffer.proofs.Answered.{answer-fits, printed-fits, accepted-fits}
 use Rattle.buffer.proofs.quota.QuotaCodeBuffer.print.Needs as need
 
 pub returns : need.returns
@@ -25,4 +25,5 @@ returns g c =
       limit-stays = omega arith;
       beyond-is-untouched = c .print .ensures .beyond-is-untouched;
       home-stays = c .print .ensures .home-stays;
+      notes-what-was-appended = subst (m .noted below (c .print .last .self)) (accepted-fits held _ text room ∙ sym (accepted-fits held _ text own)) (c .print .ensures .notes-what-was-appended);
     }

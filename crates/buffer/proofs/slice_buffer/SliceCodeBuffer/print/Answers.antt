@@ -30,4 +30,5 @@ returns c =
       limit-stays = ap (λ n. min n 65536) long;
       beyond-is-untouched = subst (λ n. drop (length (take n ys)) ys ≡ drop (length (take n ys)) cells) all (beyond cells text ys at limit inv room top);
       home-stays = refl;
+      notes-what-was-appended = tt;
     }
