@@ -1,3 +1,4 @@
 pub mod Items
 pub mod Answers
 pub mod Telling
+pub mod Quotas

@@ -1,5 +1,6 @@
 //! Reads a job, sets its page and shows it.
 ghost use mathlib.Core.Path.{_≡_};
+ghost use Rattle.plantpage.specs.Quotas.{quotaOf};
 use crate::carrying::carry_out;
 use crate::failure::Failure;
 use crate::failure::FailureFromIo;
@@ -44,7 +45,7 @@ pub fn set_page(
         calls,
     } = read_job(rt.alloc(), text.as_slice())?;
     let below = LineWatch::new(OwnedBuffer::new());
-    let mut code = Quota::new(below, limit.unwrap_or(MAX_LIMIT));
+    let mut code = Quota::new(below, quota_of(limit));
     let told = carry_out_all(rt, &mut code, options_of(options), calls);
     let watch = code.into_inner();
     let lines = watch.line_feeds();
@@ -95,6 +96,13 @@ fn options_of(options: JobOptions) -> CodegenOptions
         minify: options.minify,
         ascii_only: options.ascii_only,
     }
+}
+
+/// The page's quota in bytes: the job's limit, else the greatest.
+fn quota_of(limit: Option<usize>) -> usize
+    ensures is_the_limit_else_the_greatest { λ r. ⌜ r ≡ quotaOf limit ⌝ }
+{
+    limit.unwrap_or(MAX_LIMIT)
 }
 
 fn read_input(rt: &LibcRuntime) -> Result<Vec<u8>, Failure> {

@@ -1,7 +1,9 @@
 //! The line that tells of a call.
 ghost use lib.Chars.{codes};
 ghost use mathlib.Core.Path.{_≡_};
-ghost use Rattle.plantpage.specs.Telling.{outcomeOf, layerName};
+ghost use Rattle.plantpage.specs.Telling.{outcomeOf, layerName, valueName, outcomeTold, lineTold};
+ghost use Rattle.std.specs.Options.{mapped};
+ghost use Rattle.std.specs.declared.option.Option.the-variants.{Some};
 use crate::carrying::HostFault;
 use job::CallKind;
 use refusal::Layer;
@@ -49,7 +51,9 @@ fn layer_name(layer: Layer) -> &'static str
 }
 
 /// What the value that goes with a refusal's number is, where the number has one.
-fn value_name(number: u32) -> Option<&'static str> {
+fn value_name(number: u32) -> Option<&'static str>
+    ensures of_the_number { λ r. ⌜ mapped (λ name. now name) r ≡ valueName number ⌝ }
+{
     match number {
         2 | 4 => Some("place"),
         7 => Some("need"),
@@ -58,6 +62,8 @@ fn value_name(number: u32) -> Option<&'static str> {
 }
 
 pub impl fmt::Display for Outcome as OutcomeDisplay {
+    ghost shown = { λ o. Some (outcomeTold o) };
+
     fn fmt<W: fmt::Write>(&self, f: &mut fmt::Formatter<W>) -> fmt::Result {
         match self {
             Outcome::Printed(printed) => write!(f, "0, {printed} bytes"),
@@ -75,6 +81,8 @@ pub impl fmt::Display for Outcome as OutcomeDisplay {
 }
 
 pub impl fmt::Display for Told as ToldDisplay {
+    ghost shown = { λ t. Some (lineTold t) };
+
     fn fmt<W: fmt::Write>(&self, f: &mut fmt::Formatter<W>) -> fmt::Result {
         let line = self.line;
         let call = self.kind.keyword();
