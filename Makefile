@@ -3,7 +3,7 @@
 .PHONY: run test
 
 PLANTPAGE = target/bin/plantpage
-SAMPLE = crates/plantpage/stdin
+SAMPLE = crates/plantpage/data/sample.job
 
 run:
 	rt check plantpage

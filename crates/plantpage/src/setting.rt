@@ -29,7 +29,7 @@ use std::io::Write;
 /// What stands above and below the page.
 const RULE: &str = "----------------------------------------";
 
-/// Sets the page of a job, tells of each call, and shows the page.
+/// Sets the page of a job, tells of each call, shows the page, and writes it where a file is named.
 pub fn set_page(
     rt: &LibcRuntime,
     job: Option<String>,
@@ -118,9 +118,11 @@ fn read_file(rt: &LibcRuntime, path: String) -> Result<Vec<u8>, Failure> {
     }
 }
 
+/// Writes the page to the file, and tells of it.
 fn write_file(rt: &LibcRuntime, path: String, page: &[u8]) -> Result<(), Failure> {
-    match fs::write(rt, path.as_str(), page) {
-        Ok(()) => Ok(()),
-        Err(error) => Err(Failure::Unwritten { path, error }),
+    if let Err(error) = fs::write(rt, path.as_str(), page) {
+        return Err(Failure::Unwritten { path, error });
     }
+    let held = page.len();
+    Ok(println!(rt, "written: {held} bytes to {path}")?)
 }
