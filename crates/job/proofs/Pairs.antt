@@ -2,36 +2,35 @@
 use Prim.Native.Nat.{ℕ, _+_, _-_, _<_, _≤_}
 use native.Mathlib.Numerals.{add-one}
 use native.Mathlib.Omega.{arith}
-use mathlib.Core.Path.{_≡_, refl, sym, ap, subst, _∙_}
-use mathlib.Core.Bool.{Bool, true, false, _||_}
+use mathlib.Core.Path.{_≡_, refl, sym, ap, _∙_}
+use mathlib.Core.Bool.{Bool, true, false, _&&_, _||_}
 use mathlib.Core.List.{List, [], _∷_}
+use lib.Dec.{eqb, leb}
 use lib.ListN.{length, drop, getD}
 use lib.Seq.{drop-cons}
-use Rattle.job.specs.Surrogates.{surrogate-pair, holds-surrogate}
+use Rattle.text.specs.Sequence.{marked}
 
--- from `i` on, by the two bytes that stand there
-pub pair-from : (s : List ℕ) (i : ℕ) → i + 1 < length s → holds-surrogate (drop i s) ≡ (surrogate-pair (getD s i 0) (getD s (i + 1) 0) || holds-surrogate (drop (i + 1) s))
-pair-from s i h =
-    let here : i < length s = omega arith in
-    rw (drop-cons s i 0, ← add-one i, drop-cons s (i + 1) 0)
+abbrev pub begins : ℕ → ℕ → Bool
+begins lead next = eqb lead 0xED && leb 0xA0 next && leb next 0xBF
 
--- the same of the byte at `i` and the one before it
-pub pair-before : (s : List ℕ) (i : ℕ) → 1 ≤ i → i < length s → holds-surrogate (drop (i - 1) s) ≡ (surrogate-pair (getD s (i - 1) 0) (getD s i 0) || holds-surrogate (drop i s))
-pair-before s i low h =
-    let e : i - 1 + 1 ≡ i = omega arith in
-    let f : i - 1 + 1 < length s = omega arith in
-    subst (λ (k : ℕ). holds-surrogate (drop (i - 1) s) ≡ (surrogate-pair (getD s (i - 1) 0) (getD s k 0) || holds-surrogate (drop k s))) e (pair-from s (i - 1) f)
+-- no byte stands before the first
+pub at-first : (s : List ℕ) → marked 0 s ≡ marked (getD s 0 0) (drop 1 s)
+at-first [] = refl
+at-first (a ∷ s) = refl
 
-pub found : (s : List ℕ) (i : ℕ) → 1 ≤ i → i < length s → true ≡ surrogate-pair (getD s (i - 1) 0) (getD s i 0) → true ≡ holds-surrogate (drop (i - 1) s)
-found s i low h e = sym (pair-before s i low h ∙ rw (sym e))
+-- from `i` on, by the byte that stands there and the one before it
+at-pair : (s : List ℕ) (i before : ℕ) → i < length s → marked before (drop i s) ≡ (begins before (getD s i 0) || marked (getD s i 0) (drop (i + 1) s))
+at-pair s i before h = rw (drop-cons s i 0, add-one i)
 
-pub passed : (s : List ℕ) (i : ℕ) → 1 ≤ i → i < length s → false ≡ surrogate-pair (getD s (i - 1) 0) (getD s i 0) → holds-surrogate (drop (i - 1) s) ≡ holds-surrogate (drop (i + 1 - 1) s)
-passed s i low h e =
-    let k : i + 1 - 1 ≡ i = omega arith in
-    pair-before s i low h ∙ rw (sym e, k)
+pub found : (s : List ℕ) (i : ℕ) → i < length s → true ≡ begins (getD s (i - 1) 0) (getD s i 0) → true ≡ marked (getD s (i - 1) 0) (drop i s)
+found s i h e = sym (at-pair s i (getD s (i - 1) 0) h ∙ ap (λ (b : Bool). b || marked (getD s i 0) (drop (i + 1) s)) (sym e))
 
--- no more than one byte holds none
-pub none-in-one : (s : List ℕ) → length s ≤ 1 → holds-surrogate s ≡ false
-none-in-one [] h = refl
-none-in-one (a ∷ []) h = refl
-none-in-one (a ∷ b ∷ s) h = absurd (omega arith)
+pub passed : (s : List ℕ) (i : ℕ) → i < length s → false ≡ begins (getD s (i - 1) 0) (getD s i 0) → marked (getD s (i - 1) 0) (drop i s) ≡ marked (getD s (i + 1 - 1) 0) (drop (i + 1) s)
+passed s i h e =
+    let k : i ≡ i + 1 - 1 = omega arith in
+    at-pair s i (getD s (i - 1) 0) h ∙ ap (λ (b : Bool). b || marked (getD s i 0) (drop (i + 1) s)) (sym e) ∙ ap (λ (j : ℕ). marked (getD s j 0) (drop (i + 1) s)) k
+
+-- where no byte is left, there is none
+pub none-left : (before : ℕ) (s : List ℕ) → length s ≤ 0 → marked before s ≡ false
+none-left before [] h = refl
+none-left before (b ∷ s) h = absurd (omega arith)

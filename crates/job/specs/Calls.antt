@@ -20,7 +20,7 @@ use Rattle.job.specs.declared.words.Flag.the-variants.{Exact, Lone, Plain}
 use Rattle.job.specs.declared.words.Form.{Form}
 use Rattle.job.specs.declared.words.Form.the-variants.{AsItStands, Hex}
 use Rattle.job.specs.Hex.{pairs}
-use Rattle.job.specs.Surrogates.{holds-surrogate}
+use Rattle.text.specs.Sequence.{marked}
 
 -- a call with its line and its text
 pub record CallAt : Type 0 where
@@ -39,8 +39,8 @@ text-of (Hex flag) argument = pairs argument
 
 -- the flag of a text: what is exact, unless it is forced
 abbrev pub flag-of : Form → List ℕ → Bool
-flag-of AsItStands bytes = holds-surrogate bytes
-flag-of (Hex Exact) bytes = holds-surrogate bytes
+flag-of AsItStands bytes = marked 0 bytes
+flag-of (Hex Exact) bytes = marked 0 bytes
 flag-of (Hex Lone) bytes = true
 flag-of (Hex Plain) bytes = false
 

@@ -1,7 +1,7 @@
 -- A whole job: what each line adds to the lines before it, and what the first line is refused for that is none of a job's.
 use Prim.Native.Nat.{ℕ, _+_}
 use mathlib.Core.Path.{_≡_}
-use mathlib.Core.Bool.{Bool, true, false, cond}
+use mathlib.Core.Bool.{Bool, true, false, cond, _||_}
 use mathlib.Core.List.{List, [], _∷_, _++_, map}
 use lib.Dec.{eqb}
 use lib.ListN.{length}
@@ -100,14 +100,33 @@ job-from n d (line ∷ rest) = elim (line-on d n line) [ Err e ↦ Err (fault n 
 abbrev pub job-of : List ℕ → Result Sketch JobFault
 job-of text = job-from 1 (sketch None None []) (lines text)
 
--- what taking a line answers and leaves, where `x` is what the line makes
-abbrev pub LineTaken : Result Sketch Expected → Result Unit LineError → Sketch → Type 0
-LineTaken x (Ok u) after = x ≡ Ok after
-LineTaken x (Err (Awaited e)) after = x ≡ Err e
-LineTaken x (Err Memory) after = Unit {0}
+abbrev pub sets-text : Option AnyKeyword → Bool
+sets-text None = false
+sets-text (Some Options) = false
+sets-text (Some Limit) = false
+sets-text (Some (Set kind form)) = true
 
--- what reading a job answers
+-- whether a line is a call's
+abbrev pub is-call : List ℕ → Bool
+is-call line = cond (ignored line) false (sets-text (keyword-of (word line)))
+
+abbrev pub call-among : List (List ℕ) → Bool
+call-among [] = false
+call-among (line ∷ rest) = is-call line || call-among rest
+
+-- what taking a setting answers and leaves, where `x` is what its line makes
+abbrev pub SettingTaken : Result Sketch Expected → Result Unit Expected → Sketch → Type 0
+SettingTaken x (Ok u) after = x ≡ Ok after
+SettingTaken x (Err e) after = x ≡ Err e
+
+-- what taking a line answers and leaves, where `x` is what the line makes; memory is wanted for a call alone
+abbrev pub LineTaken : Bool → Result Sketch Expected → Result Unit LineError → Sketch → Type 0
+LineTaken call x (Ok u) after = x ≡ Ok after
+LineTaken call x (Err (Awaited e)) after = x ≡ Err e
+LineTaken call x (Err Memory) after = true ≡ call
+
+-- what reading a job answers; memory is wanted only where some line is a call's
 abbrev pub JobRead : List ℕ → Result Job JobError → Type 0
 JobRead text (Ok job) = job-of text ≡ Ok (whole job)
 JobRead text (Err (job-error.Fault f)) = job-of text ≡ Err f
-JobRead text (Err job-error.Memory) = Unit {0}
+JobRead text (Err job-error.Memory) = true ≡ call-among (lines text)

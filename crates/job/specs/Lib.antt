@@ -2,7 +2,6 @@ pub mod Lines
 pub mod Words
 pub mod Hex
 pub mod Settings
-pub mod Surrogates
 pub mod Calls
 pub mod Jobs
 pub mod Messages

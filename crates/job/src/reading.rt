@@ -1,7 +1,8 @@
 //! Reads a whole job.
+ghost use mathlib.Core.Bool.{true};
 ghost use mathlib.Core.Path.{_≡_};
 ghost use Rattle.job.specs.Calls.{TextRead, CallRead, flag-of};
-ghost use Rattle.job.specs.Jobs.{LineTaken, JobRead, drafted, line-on, options-line, limit-line, call-line};
+ghost use Rattle.job.specs.Jobs.{SettingTaken, LineTaken, JobRead, is-call, drafted, line-on, options-line, limit-line, call-line};
 use crate::bytes::LINE_FEED;
 use crate::bytes::Stop;
 use crate::bytes::cut;
@@ -69,7 +70,7 @@ pub fn read_job(heap: Global, text: &[u8]) -> Result<Job, JobError>
 impl Draft {
     /// Takes one line in.
     fn take_line(&mut self, heap: Global, number: usize, line: &[u8]) -> Result<(), LineError>
-        ensures what_the_line_makes { λ r. ⌜ LineTaken (line-on (drafted (now (self .entry))) number (now (line .entry))) r (drafted (now (self .exit))) ⌝ }
+        ensures what_the_line_makes { λ r. ⌜ LineTaken (is-call (now (line .entry))) (line-on (drafted (now (self .entry))) number (now (line .entry))) r (drafted (now (self .exit))) ⌝ }
     {
         if is_ignored(line) {
             return Ok(());
@@ -77,34 +78,34 @@ impl Draft {
         let (word, argument) = cut(line, Stop::Blank);
         match keyword_of(word) {
             None => Err(LineError::Awaited(Expected::Keyword)),
-            Some(Keyword::Options) => self.take_options(argument),
-            Some(Keyword::Limit) => self.take_limit(argument),
+            Some(Keyword::Options) => Ok(self.take_options(argument)?),
+            Some(Keyword::Limit) => Ok(self.take_limit(argument)?),
             Some(Keyword::Set(kind, form)) => self.take_call(heap, number, kind, form, argument),
         }
     }
 
-    fn take_options(&mut self, argument: &[u8]) -> Result<(), LineError>
-        ensures once_before_the_first_call { λ r. ⌜ LineTaken (options-line (drafted (now (self .entry))) (now (argument .entry))) r (drafted (now (self .exit))) ⌝ }
+    fn take_options(&mut self, argument: &[u8]) -> Result<(), Expected>
+        ensures once_before_the_first_call { λ r. ⌜ SettingTaken (options-line (drafted (now (self .entry))) (now (argument .entry))) r (drafted (now (self .exit))) ⌝ }
     {
         if !self.calls.is_empty() {
-            return Err(LineError::Awaited(Expected::OptionsFirst));
+            return Err(Expected::OptionsFirst);
         }
         if self.options.is_some() {
-            return Err(LineError::Awaited(Expected::OptionsOnce));
+            return Err(Expected::OptionsOnce);
         }
         let options = options_of(argument)?;
         self.options = Some(options);
         Ok(())
     }
 
-    fn take_limit(&mut self, argument: &[u8]) -> Result<(), LineError>
-        ensures once_before_the_first_call { λ r. ⌜ LineTaken (limit-line (drafted (now (self .entry))) (now (argument .entry))) r (drafted (now (self .exit))) ⌝ }
+    fn take_limit(&mut self, argument: &[u8]) -> Result<(), Expected>
+        ensures once_before_the_first_call { λ r. ⌜ SettingTaken (limit-line (drafted (now (self .entry))) (now (argument .entry))) r (drafted (now (self .exit))) ⌝ }
     {
         if !self.calls.is_empty() {
-            return Err(LineError::Awaited(Expected::LimitFirst));
+            return Err(Expected::LimitFirst);
         }
         if self.limit.is_some() {
-            return Err(LineError::Awaited(Expected::LimitOnce));
+            return Err(Expected::LimitOnce);
         }
         let limit = limit_of(argument)?;
         self.limit = Some(limit);
@@ -119,7 +120,7 @@ impl Draft {
         form: Form,
         argument: &[u8],
     ) -> Result<(), LineError>
-        ensures behind_the_calls_before { λ r. ⌜ LineTaken (call-line (drafted (now (self .entry))) number kind form (now (argument .entry))) r (drafted (now (self .exit))) ⌝ }
+        ensures behind_the_calls_before { λ r. ⌜ LineTaken true (call-line (drafted (now (self .entry))) number kind form (now (argument .entry))) r (drafted (now (self .exit))) ⌝ }
     {
         let call = call_of(heap, kind, form, argument)?;
         self.calls.push(Entry { line: number, call })?;
