@@ -1,5 +1,10 @@
-use crate::Style;
-use crate::print_in;
+//! The worked examples, the limits, and refusals that touch nothing.
+use buffer::CodeBuffer;
+use buffer::SliceBuffer;
+use buffer::SliceCodeBuffer;
+use codegen::CodegenOptions;
+use codegen::print_string;
+use codegen::print_string_literal_as_template;
 use std::test::*;
 use text::JSStr;
 use text::Name;
@@ -7,6 +12,54 @@ use text::RawText;
 use text::fault::TextFaultDebug;
 
 const MAX_TEXT: usize = 16384;
+
+/// How a text is printed.
+#[derive(Clone, Copy)]
+enum Style {
+    Quoted,
+    Minified,
+    MinifiedOrBacktick,
+    Ascii,
+    Template,
+}
+
+/// The options of a style.
+fn options_of(style: Style) -> CodegenOptions {
+    let mut options = CodegenOptions {
+        single_quote: false,
+        minify: false,
+        ascii_only: false,
+    };
+    match style {
+        Style::Minified | Style::MinifiedOrBacktick => {
+            options.minify = true;
+        }
+        Style::Ascii => {
+            options.ascii_only = true;
+        }
+        Style::Quoted | Style::Template => {}
+    }
+    options
+}
+
+/// Prints a text at the front of `out`: how many bytes it became, or the need.
+fn print_in(out: &mut [u8], style: Style, text: &JSStr) -> Result<usize, usize> {
+    let options = options_of(style);
+    let mut code = SliceBuffer::new(out);
+    let allow_backtick = match style {
+        Style::MinifiedOrBacktick => true,
+        _ => false,
+    };
+    let answer = match style {
+        Style::Template => print_string_literal_as_template(&mut code, options, text),
+        _ => print_string(&mut code, options, text, allow_backtick),
+    };
+    let held = code.finish();
+    match answer {
+        Ok(()) => Ok(held),
+        Err(fault) => Err(fault.refusal().value),
+    }
+}
 
 #[test]
 fn examples_are_printed(rt: LibcRuntime) -> Result<(), Fail> {

@@ -7,8 +7,9 @@
 //! `limit`, and `reading` puts them together: `read_job`.
 //!
 //! No function here prints or reads a file. `read_job` answers what `specs/Jobs.antt` says a text is: the job, or its first
-//! line that is none of a job's with what was expected there; only want of memory is left open. What each line adds is
-//! defined there from the smaller definitions: `Lines`, `Words`, `Hex`, `Settings` and `Calls`. The exact flag is that of crate `text`.
+//! line that is none of a job's with what was expected there; only want of memory is left open, and only for a job with a
+//! call. What each line adds is defined there from the smaller definitions: `Lines`, `Words`, `Hex`, `Settings` and `Calls`;
+//! the exact flag of a text is crate `text`'s.
 
 mod bytes;
 mod calls;
