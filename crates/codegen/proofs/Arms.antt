@@ -293,8 +293,8 @@ module _ (q : Quote) (ascii lone : Bool) (bytes : List ℕ) (at : ℕ) (h : at <
   free-of : (n : ℕ) → n ≡ width (g .c) → Neutral (g .c) (g .cs) → (allow : Bool) →
       chosen allow (codePoints (drop at bytes)) ≡ chosen allow (codePoints (drop (at + n) bytes))
   free-of n w u allow =
-      ap (chosen allow) (points-are q ascii lone (drop at bytes) g) ∙ chosen-free allow (g .c) (g .cs) u
-      ∙ sym (ap (chosen allow) (ap codePoints (sym (drop-drop n at bytes)) ∙ ap (λ k. codePoints (drop k (drop at bytes))) w ∙ points-rest q ascii lone (drop at bytes) g))
+      ap (chosen allow) (points-are lone (drop at bytes) g) ∙ chosen-free allow (g .c) (g .cs) u
+      ∙ sym (ap (chosen allow) (ap codePoints (sym (drop-drop n at bytes)) ∙ ap (λ k. codePoints (drop k (drop at bytes))) w ∙ points-rest lone (drop at bytes) g))
 
   ordinary-neutral : Ordinary ascii lone (getD bytes at 0) → Neutral (g .c) (g .cs)
   ordinary-neutral o =

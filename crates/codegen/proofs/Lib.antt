@@ -9,3 +9,8 @@ mod Moves
 mod Texts
 mod Bound
 mod Kept
+mod RawSteps
+mod RawArms
+mod RawAdvance
+mod RawBound
+mod RawKept

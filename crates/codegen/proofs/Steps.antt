@@ -35,7 +35,7 @@ use Rattle.codegen.specs.declared.turn.Turn.the-variants.{Plain, Escaped, Tag}
 use Rattle.codegen.specs.Turns.{Fine, Fit, takes, puts, body, Turned}
 use Rattle.codegen.proofs.Told.{less-rules}
 
-reads : (lone : Bool) (cs : List ℕ) → All (Fine lone) cs → codePoints (encodes cs) ≡ cs
+pub reads : (lone : Bool) (cs : List ℕ) → All (Fine lone) cs → codePoints (encodes cs) ≡ cs
 reads lone [] f = refl
 reads lone (c ∷ cs) f = point-step c (encodes cs) (f .0 .0) ∙ ap (λ s. c ∷ s) (reads lone cs (f .1))
 
@@ -89,14 +89,15 @@ escape-plain c CodePoint h = go (ltb c 0x100000)
     go true = omega (arith, hex-quiet)
     go false = omega (arith, hex-quiet)
 
-module _ (q : Quote) (ascii lone : Bool) (s : List ℕ) (f : Front lone s) where
-  width-fits : width (f .c) ≤ length s
+-- what stands at the front
+module _ (lone : Bool) (s : List ℕ) (f : Front lone s) where
+  pub width-fits : width (f .c) ≤ length s
   width-fits = let l = ap length (f .here) ∙ length-append (encode (f .c)) (encodes (f .cs)) in omega (arith, length-encode (f .c))
 
-  rest-is : drop (width (f .c)) s ≡ encodes (f .cs)
+  pub rest-is : drop (width (f .c)) s ≡ encodes (f .cs)
   rest-is = ap (drop (width (f .c))) (f .here) ∙ drop-at (encode (f .c)) (encodes (f .cs)) (width (f .c)) (length-encode (f .c))
 
-  front-is : take (width (f .c)) s ≡ encode (f .c)
+  pub front-is : take (width (f .c)) s ≡ encode (f .c)
   front-is = ap (take (width (f .c))) (f .here) ∙ take-at (encode (f .c)) (encodes (f .cs)) (width (f .c)) (length-encode (f .c))
 
   pub points-are : codePoints s ≡ f .c ∷ f .cs
@@ -105,17 +106,18 @@ module _ (q : Quote) (ascii lone : Bool) (s : List ℕ) (f : Front lone s) where
   pub points-rest : codePoints (drop (width (f .c)) s) ≡ f .cs
   points-rest = ap codePoints rest-is ∙ reads lone (f .cs) (f .others)
 
-  rest-fit : Fit lone (drop (width (f .c)) s)
+  pub rest-fit : Fit lone (drop (width (f .c)) s)
   rest-fit = subst (Fit lone) (sym rest-is) (fit-encodes lone (f .cs) (f .others))
 
+module _ (q : Quote) (ascii lone : Bool) (s : List ℕ) (f : Front lone s) where
   body-rest : body q ascii (drop (width (f .c)) s) ≡ encodes (printed q ascii 0 (f .cs))
   unfolding body
-  body-rest = ap (λ t. encodes (printed q ascii 0 (codePoints t))) rest-is ∙ ap (λ t. encodes (printed q ascii 0 t)) (reads lone (f .cs) (f .others))
+  body-rest = ap (λ t. encodes (printed q ascii 0 (codePoints t))) (rest-is lone s f) ∙ ap (λ t. encodes (printed q ascii 0 t)) (reads lone (f .cs) (f .others))
 
   body-here : body q ascii s ≡ encodes (put (f .c) (pick (rules q ascii 0 (f .c) (f .cs)))) ++ encodes (printed q ascii (f .c) (f .cs))
   unfolding body
   body-here =
-      ap (λ t. encodes (printed q ascii 0 t)) points-are
+      ap (λ t. encodes (printed q ascii 0 t)) (points-are lone s f)
       ∙ encodes-append (first (f .c) (rules q ascii 0 (f .c) (f .cs))) (printed q ascii (f .c) (f .cs))
       ∙ ap (λ t. encodes t ++ encodes (printed q ascii (f .c) (f .cs))) (first-put (f .c) (rules q ascii 0 (f .c) (f .cs)))
 
@@ -125,8 +127,8 @@ module _ (q : Quote) (ascii lone : Bool) (s : List ℕ) (f : Front lone s) where
   one r o w p t e =
       record {
         more = omega (arith, width-bounds (f .c));
-        within = let l = width-fits in omega arith;
-        fit = subst (λ n. Fit lone (drop n s)) (sym w) rest-fit;
+        within = let l = width-fits lone s f in omega arith;
+        fit = subst (λ n. Fit lone (drop n s)) (sym w) (rest-fit lone s f);
         shown =
             body-here
             ∙ ap (λ x. encodes (put (f .c) x) ++ encodes (printed q ascii (f .c) (f .cs))) p
@@ -136,7 +138,7 @@ module _ (q : Quote) (ascii lone : Bool) (s : List ℕ) (f : Front lone s) where
       }
 
   pub plain-turn : (n : ℕ) → n ≡ width (f .c) → pick (rules q ascii 0 (f .c) (f .cs)) ≡ None → opens tag (f .c ∷ f .cs) ≡ false → Turned q ascii lone s (Plain n)
-  plain-turn n w p t = one (Plain n) None w p t (append-nil (encode (f .c)) ∙ sym front-is ∙ ap (λ k. take k s) (sym w))
+  plain-turn n w p t = one (Plain n) None w p t (append-nil (encode (f .c)) ∙ sym (front-is lone s f) ∙ ap (λ k. take k s) (sym w))
 
   pub escaped-turn : (e : EscapeSequence) (c n : ℕ) → c ≡ f .c → n ≡ width (f .c) → pick (rules q ascii 0 (f .c) (f .cs)) ≡ Some e → eqb 0x3C (f .c) ≡ false →
       Turned q ascii lone s (Escaped e c n)

@@ -59,8 +59,8 @@ pub fn print_with_room<B: CodeBuffer>(code: &mut B, text: &[u8])
     let _ = code.print(text);
 }
 
-// Prints an escape of c that there is room for.
-fn print_escape<B: CodeBuffer>(code: &mut B, c: u32, e: EscapeSequence)
+/// Prints an escape of c that there is room for.
+pub fn print_escape<B: CodeBuffer>(code: &mut B, c: u32, e: EscapeSequence)
     requires room { ⌜ length (B·CodeBuffer .bytes (now code)) + length (0x5C ∷ behind c e) ≤ B·CodeBuffer .«limit_of» (now code) ⌝ }
     ensures { λ _. ⌜ Appends B·CodeBuffer (now (code .entry)) (now (code .exit)) (0x5C ∷ behind c e) ⌝ }
 {

@@ -165,8 +165,8 @@ fn is_script(next: &[u8]) -> bool
     }
 }
 
-// Whether the text here begins with </script, in any case of the letters.
-fn is_script_close_tag(text: &[u8]) -> bool
+/// Whether the text here begins with `</script`, in any case of the letters.
+pub fn is_script_close_tag(text: &[u8]) -> bool
     ensures { λ r. ⌜ r ≡ opens tag (now (text .entry)) ⌝ }
 {
     if text.len() < 2 {

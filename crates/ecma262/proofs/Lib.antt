@@ -5,3 +5,5 @@ pub mod Ends
 pub mod Whole
 pub mod After
 pub mod Utf8
+pub mod Broken
+pub mod Names

@@ -21,7 +21,7 @@ use Rattle.ecma262.specs.Read.Got.{nothing, got}
 use Rattle.ecma262.specs.Read.{hexValue, codePoint, behindBackslash as behind, stringCharacter, templateCharacter, character, isLineTerminator}
 use Rattle.ecma262.proofs.Ahead.{not-ahead}
 
-hex-digit : {d v : ℕ} → HexDigit d v → hexValue d ≡ Some v
+pub hex-digit : {d v : ℕ} → HexDigit d v → hexValue d ≡ Some v
 hex-digit (decimal l e) = grind (arith, tells)
 hex-digit (small g l e) = grind (arith, tells)
 hex-digit (capital g l e) = grind (arith, tells)
@@ -62,7 +62,7 @@ not-line c l =
     let f : c ≢ 0x2029 = λ e. l (inr (inr (inr e))) in
     grind (arith, tells)
 
-escapes : {s rest u : List ℕ} → EscapeSequence s rest u → behind s ≡ got rest u
+pub escapes : {s rest u : List ℕ} → EscapeSequence s rest u → behind s ≡ got rest u
 escapes (EscapeSequence.single s) = single _ s
 escapes (EscapeSequence.non-escape {c = c} n) =
     let no-digit : (c ≢ 0x30) × (digit c ≡ false) = grind (arith, tells, n .not-digit) in

@@ -1,12 +1,18 @@
 -- The theorems.
-use mathlib.Core.List.{List, [], _++_}
+use mathlib.Core.Bool.{true, _||_}
+use mathlib.Core.List.{List, [], _∷_, _++_}
 use mathlib.Core.Logic.{_≢_}
 use mathlib.Core.Path.{_≡_}
 use Prim.Native.Nat.{ℕ}
-use Rattle.ecma262.specs.Units.{Text}
+use lib.Dec.{eqb}
+use Rattle.std.specs.declared.option.Option.the-variants.{Some, None}
+use Rattle.ecma262.specs.Units.{Text, mark}
+use Rattle.ecma262.specs.Lookahead.{opens}
 use Rattle.ecma262.specs.Literals.{NotAhead, Character, Characters, Literal}
 use Rattle.ecma262.specs.Read.{character, whole}
 use Rattle.ecma262.specs.Read.Got.{got}
+use Rattle.ecma262.specs.Template.{TemplateText, TemplateBreach, templateBreach}
+use Rattle.ecma262.specs.Names.{IdentifierName}
 use Rattle.ecma262.specs.declared.Quote.{Quote}
 use Rattle.ecma262.specs.declared.Quote.the-variants.{Backtick}
 
@@ -31,3 +37,27 @@ abbrev pub Followed : Type 0
 Followed =
     (text rest u : List ℕ) → NotAhead (λ c. (c ≢ 0x60) × (c ≢ 0x24)) rest → Characters Backtick text [] u →
     Characters Backtick (text ++ rest) rest u
+
+-- What stands between quotes q stays what it is, with its value, where the closing quote follows it.
+abbrev pub Closed : Type 0
+Closed = (q : Quote) (text rest u : List ℕ) → Characters q text [] u → Characters q (text ++ (mark q ∷ rest)) (mark q ∷ rest) u
+
+-- Text has no breach exactly if it is template text.
+abbrev pub Unbroken : Type 0
+Unbroken = (text : List ℕ) → Text text → (templateBreach text ≡ None → TemplateText text) × (TemplateText text → templateBreach text ≡ None)
+
+-- The place is that of the first breach, where the longest readable beginning ends, and of nothing else.
+abbrev pub BrokenAt : Type 0
+BrokenAt =
+    (text : List ℕ) (place : ℕ) → Text text →
+    (templateBreach text ≡ Some place → TemplateBreach text place) × (TemplateBreach text place → templateBreach text ≡ Some place)
+
+-- At a breach stands a backtick, a dollar sign before a brace, or a backslash.
+abbrev pub BrokenBy : Type 0
+BrokenBy =
+    (text : List ℕ) (place : ℕ) → Text text → (breach : TemplateBreach text place) →
+    opens (eqb 0x60 ∷ []) (breach .rest) || opens (eqb 0x24 ∷ eqb 0x7B ∷ []) (breach .rest) || opens (eqb 0x5C ∷ []) (breach .rest) ≡ true
+
+-- At the front of a text there is at most one name, with one end and its code points.
+abbrev pub UniqueName : Type 0
+UniqueName = (s r t u v : List ℕ) → IdentifierName s r u → IdentifierName s t v → (r ≡ t) × (u ≡ v)

@@ -27,7 +27,7 @@ digit Upper n h = cond-both (ltb n 10) _ _ (λ d. HexDigit d n) (λ t. decimal (
 digit Lower n h = cond-both (ltb n 10) _ _ (λ d. HexDigit d n) (λ t. decimal (ltb-true n 10 t) refl) (λ f. small (ltb-false n 10 f) h refl)
 
 -- a division by 16 more
-steps : (c : ℕ) →
+pub steps : (c : ℕ) →
     (c / 0x10 / 0x10 ≡ c / 0x100) × (c / 0x100 / 0x10 ≡ c / 0x1000) × (c / 0x1000 / 0x10 ≡ c / 0x10000) × (c / 0x10000 / 0x10 ≡ c / 0x100000)
 steps c = omega arith
 

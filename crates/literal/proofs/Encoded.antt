@@ -19,7 +19,7 @@ use Rattle.literal.proofs.Reading.{read-back}
 
 -- ASCII in code points is ASCII in bytes
 
-ascii-bytes : (s : List ℕ) → All (λ c. c < 128) s → All (λ b. b < 128) (encodes s)
+pub ascii-bytes : (s : List ℕ) → All (λ c. c < 128) s → All (λ b. b < 128) (encodes s)
 ascii-bytes [] h = tt
 ascii-bytes (c ∷ s) h = rw (encode-1 c (h .0)) (h .0, ascii-bytes s (h .1))
 

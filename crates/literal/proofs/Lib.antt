@@ -7,3 +7,10 @@ pub mod Sizes
 pub mod Encoded
 pub mod Short
 pub mod Measured
+pub mod RawTurns
+pub mod OneWalk
+pub mod RawKept
+pub mod RawOutput
+pub mod RawNames
+pub mod RawRegex
+pub mod RawBytes

@@ -114,7 +114,7 @@ absent-quiet : (s t : List ℕ) → All Quiet s → Absent t → Absent (s ++ t)
 absent-quiet [] t h later = later
 absent-quiet (x ∷ s) t h later = absent-more x (s ++ t) (and-left (eqb 0x3C x) _ (ne-eqb 0x3C x (omega arith))) (absent-quiet s t (h .1) later)
 
-absent-none : Absent []
+pub absent-none : Absent []
 absent-none zero = refl
 absent-none (suc place) = refl
 

@@ -2,4 +2,8 @@ pub mod Escapes
 pub mod Quiet
 pub mod Quotes
 pub mod Laws
+pub mod Raw
+pub mod RawWalk
+pub mod Regex
+pub mod RawLaws
 pub mod Samples

@@ -5,9 +5,14 @@ use mathlib.Core.Path.{_≡_}
 use Rattle.ecma262.specs.declared.Quote.the-variants.{Single, Double, Backtick}
 use Rattle.literal.specs.Escapes.{literal}
 use Rattle.literal.specs.Quotes.{chosen}
+use Rattle.literal.specs.Regex.{regexUnits}
+use Rattle.literal.specs.Regex.RegexUnit.{unit, plain, escaped}
+use Rattle.literal.specs.Raw.{piece, taggedPiece, directive, regexPattern, name}
 
 -- in order: nothing; NUL before a digit, and before a letter; quotes; a line feed in a string, and in a template; a lone surrogate;
--- a no-break space; U+2028; what is above FFFF in ASCII; </SCRIPT>; the choice of quotes
+-- a no-break space; U+2028; what is above FFFF in ASCII; </SCRIPT>; the choice of quotes; pieces with \$a, \\$a, \${, and with a backslash,
+-- and two, before U+2028; a tagged piece; a directive; three patterns of regular expressions; a name; the tokens
+-- of two patterns
 abbrev pub Samples : Type 0
 Samples =
     (literal Double false [] ≡ 0x22 ∷ 0x22 ∷ [])
@@ -26,3 +31,17 @@ Samples =
     × (chosen true (0x24 ∷ 0x7B ∷ []) ≡ Double)
     × (chosen true (0x0A ∷ 0x24 ∷ 0x7B ∷ []) ≡ Backtick)
     × (chosen false (0x22 ∷ []) ≡ Single)
+    × (piece true false (0x5C ∷ 0x24 ∷ 0x61 ∷ []) ≡ 0x24 ∷ 0x61 ∷ [])
+    × (piece true false (0x5C ∷ 0x5C ∷ 0x24 ∷ 0x61 ∷ []) ≡ 0x5C ∷ 0x5C ∷ 0x24 ∷ 0x61 ∷ [])
+    × (piece true false (0x5C ∷ 0x24 ∷ 0x7B ∷ []) ≡ 0x5C ∷ 0x24 ∷ 0x7B ∷ [])
+    × (piece false true (0x5C ∷ 0x2028 ∷ []) ≡ 0x5C ∷ 0x0A ∷ [])
+    × (piece false true (0x5C ∷ 0x5C ∷ 0x2028 ∷ []) ≡ 0x5C ∷ 0x5C ∷ 0x5C ∷ 0x75 ∷ 0x32 ∷ 0x30 ∷ 0x32 ∷ 0x38 ∷ [])
+    × (taggedPiece (0x3C ∷ 0x2F ∷ 0x53 ∷ 0x63 ∷ 0x72 ∷ 0x69 ∷ 0x70 ∷ 0x54 ∷ []) ≡ 0x3C ∷ 0x5C ∷ 0x2F ∷ 0x53 ∷ 0x63 ∷ 0x72 ∷ 0x69 ∷ 0x70 ∷ 0x54 ∷ [])
+    × (directive true (0x5C ∷ 0x2029 ∷ []) ≡ 0x5C ∷ 0x0A ∷ [])
+    × (regexPattern true (0x5C ∷ 0xE9 ∷ []) ≡ 0x5C ∷ 0x75 ∷ 0x30 ∷ 0x30 ∷ 0x45 ∷ 0x39 ∷ [])
+    × (regexPattern true (0x1F600 ∷ [])
+    ≡ 0x5C ∷ 0x75 ∷ 0x44 ∷ 0x38 ∷ 0x33 ∷ 0x44 ∷ 0x5C ∷ 0x75 ∷ 0x44 ∷ 0x45 ∷ 0x30 ∷ 0x30 ∷ [])
+    × (regexPattern true (0x5C ∷ 0x2028 ∷ []) ≡ 0x5C ∷ 0x75 ∷ 0x32 ∷ 0x30 ∷ 0x32 ∷ 0x38 ∷ [])
+    × (name true (0x61 ∷ 0x1F600 ∷ []) ≡ 0x61 ∷ 0x5C ∷ 0x75 ∷ 0x7B ∷ 0x31 ∷ 0x46 ∷ 0x36 ∷ 0x30 ∷ 0x30 ∷ 0x7D ∷ [])
+    × (regexUnits 0 (0x5C ∷ 0x64 ∷ 0x5C ∷ 0xE9 ∷ 0x2E ∷ []) ≡ escaped 0x64 ∷ unit 0xE9 ∷ plain 0x2E ∷ [])
+    × (regexUnits 0 (0x1F600 ∷ 0x5C ∷ 0x75 ∷ 0x30 ∷ 0x30 ∷ 0x65 ∷ 0x39 ∷ []) ≡ unit 0xD83D ∷ unit 0xDE00 ∷ unit 0xE9 ∷ [])

@@ -4,4 +4,4 @@ use Rattle.literal.proofs.samples_hold.Needs as need
 
 pub returns : need.returns
 unfolding otherRules
-returns c = record { samples-are-printed-so = (refl, refl, refl, refl, refl, refl, refl, refl, refl, refl, refl, refl, refl, refl, refl) }
+returns c = record { samples-are-printed-so = (refl, refl, refl, refl, refl, refl, refl, refl, refl, refl, refl, refl, refl, refl, refl, refl, refl, refl, refl, refl, refl, refl, refl, refl, refl, refl, refl, refl) }
