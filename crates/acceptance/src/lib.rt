@@ -2,6 +2,7 @@
 //!
 //! `tests` runs the worked examples, the limits, and refusals that touch nothing; `raw` prints raw text and names; `jobs` reads jobs, one line of a table each.
 //! The examples are proved of the definitions too (`codegen::samples_hold`); here the code prints them.
+#![tactic(auto)]
 
 #[cfg(test)]
 mod jobs;

@@ -5,6 +5,7 @@
 //! caller's bytes), `owned_buffer` (with 4,096 bytes of its own), then two layers that stand over any code buffer
 //! and are code buffers again: `quota` (a lower limit) and `line_watch` (counts lines and columns). Last, `layers`
 //! shows that a watch's counts are known through the layers over it.
+#![tactic(auto)]
 
 mod code_buffer;
 mod layers;

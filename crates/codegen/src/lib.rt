@@ -18,6 +18,7 @@
 //! `specs/Strings.antt` defines the literal's bytes, `specs/Laws.antt` what holds of it; `specs/RawTexts.antt` and
 //! `specs/RawLaws.antt` do so for raw text. `specs/Classes.antt`, `specs/Turns.antt`, `specs/Cursor.antt`, `specs/RawTurns.antt` and
 //! `specs/RawCursor.antt` are for the inner functions alone.
+#![tactic(auto)]
 mod costs;
 mod escape;
 mod escape_sequence;

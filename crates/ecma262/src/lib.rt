@@ -12,6 +12,8 @@
 //! - specs/Names: the grammar of names (12.7).
 //! - specs/Laws: the theorems, each of which is the contract of a function below.
 //! - specs/Samples: worked examples.
+#![tactic(auto)]
+
 ghost use Rattle.ecma262.specs.Laws.{Unique, Readable, WholeReadable, Followed, Closed, Unbroken, BrokenAt, BrokenBy, UniqueName};
 ghost use Rattle.ecma262.specs.Samples.{Samples};
 

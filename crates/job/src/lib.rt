@@ -10,6 +10,7 @@
 //! line that is none of a job's with what was expected there; only want of memory is left open, and only for a job with a
 //! call. What each line adds is defined there from the smaller definitions: `Lines`, `Words`, `Hex`, `Settings` and `Calls`;
 //! the exact flag of a text is crate `text`'s.
+#![tactic(auto)]
 
 mod bytes;
 mod calls;

@@ -4,6 +4,7 @@
 //! shows the page. To read the program: `request` says what the arguments ask for, `setting` reads a job and sets its page,
 //! `carrying` carries out one call, `items` prints an item, `telling` writes the line that tells of it, `failure` has what ends the program with
 //! status 1, and `usage` is the text of `plantpage help`.
+#![tactic(auto)]
 
 mod carrying;
 mod failure;

@@ -2,6 +2,7 @@
 //!
 //! Each layer has a fault type of its own, and says by one function what a fault of it tells. `specs/Returned.antt` turns an
 //! answer, a `Result` of any layer, into its number and value; contracts speak of answers through it.
+#![tactic(auto)]
 
 /// The layer that a refusal comes from.
 #[derive(Clone, Copy)]

@@ -11,6 +11,7 @@
 //! `specs/Wtf8.antt` defines well-formed bytes from the WTF-8 specification, `specs/Sequence.antt` what the code computes, and
 //! `specs/Laws.antt` has the theorems that tie the two. The breach of template text is defined in crate `ecma262`; `specs/Template.antt` says
 //! what the code computes of it. Nothing here allocates: a maker takes over the bytes that it is given.
+#![tactic(auto)]
 pub mod fault;
 pub mod js_str;
 pub mod names;

@@ -3,4 +3,4 @@ use Rattle.ecma262.proofs.Sound.{readable}
 use Rattle.ecma262.proofs.Whole.{whole-readable}
 
 pub returns : goal.returns
-returns c = record { characters-are-read-by-the-grammar = readable; literals-are-read-by-the-grammar = whole-readable }
+returns c = record { characters_are_read_by_the_grammar = readable; literals_are_read_by_the_grammar = whole-readable }

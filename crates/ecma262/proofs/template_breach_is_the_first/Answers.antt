@@ -3,7 +3,7 @@ use Rattle.ecma262.proofs.template_breach_is_the_first.Goals as goal
 
 pub returns : goal.returns
 returns c = record {
-  none-exactly-in-template-text = unbroken;
-  ends-the-longest-readable-beginning = broken_at;
-  is-a-backtick-a-substitution-or-a-backslash = broken_by;
+  none_exactly_in_template_text = unbroken;
+  ends_the_longest_readable_beginning = broken_at;
+  is_a_backtick_a_substitution_or_a_backslash = broken_by;
 }

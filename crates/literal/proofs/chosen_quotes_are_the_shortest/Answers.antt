@@ -2,4 +2,4 @@ use Rattle.literal.proofs.Sizes.{shortest_chosen}
 use Rattle.literal.proofs.chosen_quotes_are_the_shortest.Goals as goal
 
 pub returns : goal.returns
-returns c = record { no-permitted-quote-is-shorter = shortest_chosen }
+returns c = record { no_permitted_quote_is_shorter = shortest_chosen }

@@ -4,4 +4,4 @@ use Rattle.literal.proofs.RawRegex.{regex_kept}
 use Rattle.literal.proofs.other_raw_text_keeps_its_meaning.Goals as goal
 
 pub returns : goal.returns
-returns c = record { directive-keeps-its-value = directive_kept; pattern-keeps-its-tokens = regex_kept; name-is-read-as-the-name = name_read }
+returns c = record { directive_keeps_its_value = directive_kept; pattern_keeps_its_tokens = regex_kept; name_is_read_as_the_name = name_read }

@@ -4,4 +4,4 @@ use Rattle.literal.proofs.samples_hold.Goals as goal
 
 pub returns : goal.returns
 unfolding other_rules
-returns c = record { samples-are-printed-so = (refl, refl, refl, refl, refl, refl, refl, refl, refl, refl, refl, refl, refl, refl, refl, refl, refl, refl, refl, refl, refl, refl, refl, refl, refl, refl, refl, refl) }
+returns c = record { samples_are_printed_so = (refl, refl, refl, refl, refl, refl, refl, refl, refl, refl, refl, refl, refl, refl, refl, refl, refl, refl, refl, refl, refl, refl, refl, refl, refl, refl, refl, refl) }

@@ -33,6 +33,6 @@ loop-byte-preserved c =
 
 pub returns : goal.returns
 returns c = record {
-  counts-on = sym (at_drop_all (tally (tally_of c.loop-byte.feeds c.loop-byte.since)) c.args.text.now c.loop-byte.byte-index c.loop-byte-test.false) ∙ c.loop-byte.invariant.2;
-  one-a-byte-at-most = (omega arith, omega arith);
+  counts_on = sym (at_drop_all (tally (tally_of c.loop-byte.feeds c.loop-byte.since)) c.args.text.now c.loop-byte.byte-index c.loop-byte-test.false) ∙ c.loop-byte.invariant.2;
+  one_a_byte_at_most = (omega arith, omega arith);
 }

@@ -4,24 +4,24 @@ use Rattle.codegen.specs.Turns.{body}
 use Rattle.codegen.proofs.Moves.{Moved, moved, counts, plain_size, tag_size}
 use Rattle.codegen.proofs.print.body_size.Goals as goal
 
-pub overflow-add-size : goal.overflow-add-size
-overflow-add-size c = let m = moved c.args.bytes.now c.loop-at.at c.loop-at-test.true (c.in-Plain.ensures.right c.args.q (λ _. refl)) in record { fits = omega (arith, m.within) }
+pub overflow_add-size : goal.overflow_add-size
+overflow_add-size c = let m = moved c.args.bytes.now c.loop-at.at c.loop-at-test.true (c.in-Plain.ensures.right c.args.q (λ _. refl)) in record { fits = omega (arith, m.within) }
 
-pub overflow-add-at : goal.overflow-add-at
-overflow-add-at c = let m = moved c.args.bytes.now c.loop-at.at c.loop-at-test.true (c.in-Plain.ensures.right c.args.q (λ _. refl)) in record { fits = omega (arith, m.within) }
+pub overflow_add-at : goal.overflow_add-at
+overflow_add-at c = let m = moved c.args.bytes.now c.loop-at.at c.loop-at-test.true (c.in-Plain.ensures.right c.args.q (λ _. refl)) in record { fits = omega (arith, m.within) }
 
 pub loop-at-preserved-in-Plain : goal.loop-at-preserved-in-Plain
 loop-at-preserved-in-Plain c =
     let m = moved c.args.bytes.now c.loop-at.at c.loop-at-test.true (c.in-Plain.ensures.right c.args.q (λ _. refl)) in
     counts c.loop-at.size c.in-Plain.n m (sym (plain_size c.args.bytes.now c.loop-at.at c.in-Plain.n m.within)) (omega arith) c.loop-at.invariant.2 c.loop-at.invariant.3
 
-pub overflow-add-at-in-Escaped : goal.overflow-add-at-in-Escaped
-overflow-add-at-in-Escaped c = let m = moved c.args.bytes.now c.loop-at.at c.loop-at-test.true (c.in-Escaped.ensures.right c.args.q (λ _. refl)) in record { fits = omega (arith, m.within) }
+pub overflow_add-at-in-Escaped : goal.overflow_add-at-in-Escaped
+overflow_add-at-in-Escaped c = let m = moved c.args.bytes.now c.loop-at.at c.loop-at-test.true (c.in-Escaped.ensures.right c.args.q (λ _. refl)) in record { fits = omega (arith, m.within) }
 
 pub loop-at-preserved-in-Escaped : goal.loop-at-preserved-in-Escaped
 loop-at-preserved-in-Escaped c =
     let m = moved c.args.bytes.now c.loop-at.at c.loop-at-test.true (c.in-Escaped.ensures.right c.args.q (λ _. refl)) in
-    counts c.loop-at.size c.escape-size-size.result m c.escape-size-size.ensures.is (omega (arith, m.more, c.escape-size-size.ensures.small)) c.loop-at.invariant.2 c.loop-at.invariant.3
+    counts c.loop-at.size c.escape_size-size.result m c.escape_size-size.ensures.is (omega (arith, m.more, c.escape_size-size.ensures.small)) c.loop-at.invariant.2 c.loop-at.invariant.3
 
 pub loop-at-preserved : goal.loop-at-preserved
 loop-at-preserved c =

@@ -6,7 +6,7 @@ use Rattle.codegen.proofs.print.need_if_too_long.Goals as goal
 
 pub returns-then-held-bytes : goal.returns-then-held-bytes
 returns-then-held-bytes g c =
-    let q = settled c.args.quote c.args.allow-backtick c.args.bytes.now in
+    let q = settled c.args.quote c.args.allow_backtick c.args.bytes.now in
     let b = body_bound q c.args.escaping.ascii_only c.args.escaping.lone c.args.bytes.now c.requires.fit in
     let l = literal_size_lem q c.args.escaping.ascii_only c.args.bytes.now in
     omega arith

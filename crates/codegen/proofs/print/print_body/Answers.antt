@@ -30,6 +30,6 @@ pub returns : goal.returns
 returns g c =
     let inv = c.loop-state.invariant in
     record {
-      answers = c.quote-or-double.ensures ∙ ap (λ s. or_double s.quote) c.flush.ensures.settles ∙ inv.same_quote;
+      answers = c.quote_or_double.ensures ∙ ap (λ s. or_double s.quote) c.flush.ensures.settles ∙ inv.same_quote;
       appends = flushed g.B.CodeBuffer c.args.escaping.ascii_only c.args.escaping.lone inv (omega (arith, c.loop-state-test.false, ap length inv.same_text)) c.flush.ensures.appends;
     }

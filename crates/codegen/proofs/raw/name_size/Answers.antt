@@ -4,10 +4,10 @@ use Rattle.codegen.specs.RawCursor.{body_in}
 use Rattle.codegen.proofs.RawKept.{name-fits, kind_is}
 use Rattle.codegen.proofs.raw.name_size.Goals as goal
 
-pub raw-size-requires : goal.raw-size-requires
-raw-size-requires c =
+pub raw_size-requires : goal.raw_size-requires
+raw_size-requires c =
     let t = c.args.name.now in
-    let f = name-fits t.bytes.items c.as-bytes.result.now t.good c.as-bytes.ensures.are-the-names in
+    let f = name-fits t.bytes.items c.as_bytes.result.now t.good c.as_bytes.ensures.are_the_names in
     record { fit = f.0; small = omega (arith, f.1) }
 
 pub returns : goal.returns
@@ -15,10 +15,10 @@ returns c =
     let o = c.args.options in
     let t = c.args.name.now in
     let bytes = t.bytes.items in
-    let shown = c.as-bytes.result.now in
-    let f = name-fits bytes shown t.good c.as-bytes.ensures.are-the-names in
-    let e = ap (λ style. body_in style false shown) c.style-of-style.ensures ∙ kind_is Name o.minify o.ascii_only bytes shown c.as-bytes.ensures.are-the-names in
+    let shown = c.as_bytes.result.now in
+    let f = name-fits bytes shown t.good c.as_bytes.ensures.are_the_names in
+    let e = ap (λ style. body_in style false shown) c.style_of-style.ensures ∙ kind_is Name o.minify o.ascii_only bytes shown c.as_bytes.ensures.are_the_names in
     record {
-      is-the-names-length = c.raw-size.ensures.is ∙ ap length e;
-      is-at-most-384 = omega (arith, c.raw-size.ensures.small, f.1);
+      is_the_names_length = c.raw_size.ensures.is ∙ ap length e;
+      is_at_most_384 = omega (arith, c.raw_size.ensures.small, f.1);
     }

@@ -4,8 +4,8 @@ use Rattle.codegen.specs.RawCursor.{body_in}
 use Rattle.codegen.proofs.RawKept.{kind_fits, kind_is}
 use Rattle.codegen.proofs.raw.print_checked.Goals as goal
 
-pub print-raw-requires : goal.print-raw-requires
-print-raw-requires g c = let f = kind_fits c.args.kind c.args.bytes.now c.requires.checked in record { fit = f.0; small = f.1 }
+pub print_raw-requires : goal.print_raw-requires
+print_raw-requires g c = let f = kind_fits c.args.kind c.args.bytes.now c.requires.checked in record { fit = f.0; small = f.1 }
 
 pub returns : goal.returns
 returns g c =
@@ -13,7 +13,7 @@ returns g c =
     let bytes = c.args.bytes.now in
     record {
       prints =
-          subst (λ s. Prints g.B.CodeBuffer c.args.code.now c.print-raw.new.code s c.print-raw.result)
-          (ap (λ style. body_in style false bytes) c.style-of-style.ensures ∙ kind_is c.args.kind o.minify o.ascii_only bytes bytes refl)
-          c.print-raw.ensures.prints;
+          subst (λ s. Prints g.B.CodeBuffer c.args.code.now c.print_raw.new.code s c.print_raw.result)
+          (ap (λ style. body_in style false bytes) c.style_of-style.ensures ∙ kind_is c.args.kind o.minify o.ascii_only bytes bytes refl)
+          c.print_raw.ensures.prints;
     }

@@ -5,10 +5,10 @@ use Rattle.codegen.specs.RawCursor.{body_in}
 use Rattle.codegen.proofs.RawKept.{template-fits, kind_is, piece-value, piece_no_tag, piece_ascii}
 use Rattle.codegen.proofs.raw.print_template_quasi_raw.Goals as goal
 
-pub print-raw-requires : goal.print-raw-requires
-print-raw-requires g c =
+pub print_raw-requires : goal.print_raw-requires
+print_raw-requires g c =
     let t = c.args.raw.now in
-    let f = template-fits t.bytes.items c.as-bytes.result.now t.good c.as-bytes.ensures.are-the-template-texts in
+    let f = template-fits t.bytes.items c.as_bytes.result.now t.good c.as_bytes.ensures.are_the_template_texts in
     record { fit = f.0; small = f.1 }
 
 pub returns : goal.returns
@@ -16,13 +16,13 @@ returns g c =
     let o = c.args.options in
     let t = c.args.raw.now in
     let bytes = t.bytes.items in
-    let shown = c.as-bytes.result.now in
+    let shown = c.as_bytes.result.now in
     record {
-      prints-the-piece-whole-or-not-at-all =
-          subst (λ s. Prints g.B.CodeBuffer c.args.code.now c.print-raw.new.code s c.print-raw.result)
-          (ap (λ style. body_in style false shown) c.style-of-style.ensures ∙ kind_is Piece o.minify o.ascii_only bytes shown c.as-bytes.ensures.are-the-template-texts)
-          c.print-raw.ensures.prints;
-      it-keeps-its-value = piece-value o.minify o.ascii_only bytes t.good;
-      it-never-closes-a-script = piece_no_tag o.minify o.ascii_only bytes;
-      it-is-ascii-under-ascii-only = piece_ascii o.minify o.ascii_only bytes;
+      prints_the_piece_whole_or_not_at_all =
+          subst (λ s. Prints g.B.CodeBuffer c.args.code.now c.print_raw.new.code s c.print_raw.result)
+          (ap (λ style. body_in style false shown) c.style_of-style.ensures ∙ kind_is Piece o.minify o.ascii_only bytes shown c.as_bytes.ensures.are_the_template_texts)
+          c.print_raw.ensures.prints;
+      it_keeps_its_value = piece-value o.minify o.ascii_only bytes t.good;
+      it_never_closes_a_script = piece_no_tag o.minify o.ascii_only bytes;
+      it_is_ascii_under_ascii_only = piece_ascii o.minify o.ascii_only bytes;
     }

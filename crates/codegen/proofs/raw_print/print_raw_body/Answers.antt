@@ -15,8 +15,8 @@ advance-requires g c =
 pub loop-state-preserved : goal.loop-state-preserved
 loop-state-preserved g c = joined g.B.CodeBuffer c.args.style c.loop-state.invariant c.advance.ensures.advanced
 
-pub print-with-room-requires : goal.print-with-room-requires
-print-with-room-requires g c =
+pub print_with_room-requires : goal.print_with_room-requires
+print_with_room-requires g c =
     let inv = c.loop-state.invariant in
     let s = c.loop-state.state in
     let r = last_room g.B.CodeBuffer c.args.style inv (omega (arith, c.loop-state-test.false, ap length inv.same_text)) c.requires.room in
@@ -29,5 +29,5 @@ returns g c =
     let s = c.loop-state.state in
     record {
       appends = flushed g.B.CodeBuffer c.args.style inv (omega (arith, c.loop-state-test.false, ap length inv.same_text))
-          (subst (λ xs. Appends g.B.CodeBuffer c.loop-state.code c.print-with-room.new.code (between s.chunk_start s.at xs)) (sym inv.same_text) c.print-with-room.ensures);
+          (subst (λ xs. Appends g.B.CodeBuffer c.loop-state.code c.print_with_room.new.code (between s.chunk_start s.at xs)) (sym inv.same_text) c.print_with_room.ensures);
     }

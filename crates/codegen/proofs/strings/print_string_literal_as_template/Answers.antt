@@ -8,10 +8,10 @@ returns g c =
     let ascii = c.args.options.ascii_only in
     let bytes = t.bytes.items in
     record {
-      prints-the-template-whole-or-not-at-all = c.print-text.ensures.prints;
-      it-is-utf8 = in_utf8 bytes t.lone t.good Backtick ascii;
-      it-is-read-back-as-the-text = read_back bytes t.lone t.good Backtick ascii;
-      it-is-read-in-no-other-way = read_once bytes t.lone t.good Backtick ascii;
-      it-never-closes-a-script = no_script_end bytes t.lone t.good Backtick ascii;
-      it-is-ascii-under-ascii-only = ascii_if_asked bytes t.lone t.good Backtick ascii;
+      prints_the_template_whole_or_not_at_all = c.print_text.ensures.prints;
+      it_is_utf8 = in_utf8 bytes t.lone t.good Backtick ascii;
+      it_is_read_back_as_the_text = read_back bytes t.lone t.good Backtick ascii;
+      it_is_read_in_no_other_way = read_once bytes t.lone t.good Backtick ascii;
+      it_never_closes_a_script = no_script_end bytes t.lone t.good Backtick ascii;
+      it_is_ascii_under_ascii_only = ascii_if_asked bytes t.lone t.good Backtick ascii;
     }

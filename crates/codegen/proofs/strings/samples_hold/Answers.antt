@@ -10,7 +10,7 @@ pub returns : goal.returns
 unfolding encode other_rules sequence quoted piece_bytes regex_bytes
 returns c =
     record {
-      all-samples-hold = record {
+      all_samples_hold = record {
         empty = refl;
         empty-small = refl;
         nul_digit = refl;

@@ -8,8 +8,8 @@ pub returns : goal.returns
 returns c =
     let o = c.args.options in
     let bytes = c.args.text.now.bytes.items in
-    let asked = ap (λ x. settled x c.args.allow-backtick bytes) c.quote-asked-quote.ensures ∙ asked_for o c.args.allow-backtick bytes in
+    let asked = ap (λ x. settled x c.args.allow_backtick bytes) c.quote_asked-quote.ensures ∙ asked_for o c.args.allow_backtick bytes in
     record {
-      is-the-literals-length = c.text-size.ensures.is ∙ ap (λ q. length (quoted q o.ascii_only bytes)) asked;
-      is-at-most-65538 = c.text-size.ensures.small;
+      is_the_literals_length = c.text_size.ensures.is ∙ ap (λ q. length (quoted q o.ascii_only bytes)) asked;
+      is_at_most_65538 = c.text_size.ensures.small;
     }

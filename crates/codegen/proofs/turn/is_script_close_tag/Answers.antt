@@ -10,5 +10,5 @@ returns-then-text-lt2 c = sym (tag_short c.args.text.now (omega arith))
 
 pub returns : goal.returns
 returns c =
-    c.is-script.ensures ∙ ap (opens script) (take_rest c.args.text.now 2)
+    c.is_script.ensures ∙ ap (opens script) (take_rest c.args.text.now 2)
     ∙ tag_third c.args.text.now c.if-text-lt2.false c.if-text-ne60.false c.if-text-ne47.false

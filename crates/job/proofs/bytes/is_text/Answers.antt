@@ -6,5 +6,5 @@ use Rattle.std.proofs.lemmas.Bool.Decides.{Decides-eqb}
 
 pub returns : goal.returns
 returns c =
-    let t = tested c.args.bytes.now c.as-bytes.result.now c.eq.result (slice_eq-Decides Decides-eqb _ _ _ c.eq.ensures) in
-    record { byte-for-byte = rw c.as-bytes.ensures.value at t }
+    let t = tested c.args.bytes.now c.as_bytes.result.now c.eq.result (slice_eq-Decides Decides-eqb _ _ _ c.eq.ensures) in
+    record { byte_for_byte = rw c.as_bytes.ensures.value at t }

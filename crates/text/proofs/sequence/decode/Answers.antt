@@ -6,32 +6,32 @@ use Rattle.text.proofs.Codec.{sequence-none}
 use Rattle.text.proofs.sequence.decode.Goals as goal
 
 pub returns-then-n-eq0 : goal.returns-then-n-eq0
-returns-then-n-eq0 c = record { is-the-sequence-there = at_0 c.args.bytes.now c.args.at (omega arith) (sym c.sequence-length-n.ensures.is-that-of-the-lead-byte ∙ c.if-n-eq0.true) }
+returns-then-n-eq0 c = record { is_the_sequence_there = at_0 c.args.bytes.now c.args.at (omega arith) (sym c.sequence_length-n.ensures.is_that_of_the_lead_byte ∙ c.if-n-eq0.true) }
 
 pub returns-then-n-eq1 : goal.returns-then-n-eq1
-returns-then-n-eq1 c = record { is-the-sequence-there = at_1 c.args.bytes.now c.args.at (omega arith) (sym c.sequence-length-n.ensures.is-that-of-the-lead-byte ∙ c.if-n-eq1.true) }
+returns-then-n-eq1 c = record { is_the_sequence_there = at_1 c.args.bytes.now c.args.at (omega arith) (sym c.sequence_length-n.ensures.is_that_of_the_lead_byte ∙ c.if-n-eq1.true) }
 
 pub returns-then-n-eq2 : goal.returns-then-n-eq2
 returns-then-n-eq2 c = record {
-  is-the-sequence-there =
-      at_2 c.args.bytes.now c.args.at (omega arith) c.byte-at-b.result c.goes-on.result c.hold.result
-      (sym c.sequence-length-n.ensures.is-that-of-the-lead-byte ∙ c.if-n-eq2.true) c.byte-at-b.ensures.is-the-byte-or-zero-past-the-end c.goes-on.ensures c.hold.ensures;
+  is_the_sequence_there =
+      at_2 c.args.bytes.now c.args.at (omega arith) c.byte_at-b.result c.goes_on.result c.hold.result
+      (sym c.sequence_length-n.ensures.is_that_of_the_lead_byte ∙ c.if-n-eq2.true) c.byte_at-b.ensures.is_the_byte_or_zero_past_the_end c.goes_on.ensures c.hold.ensures;
 }
 
 pub returns-then-n-eq3 : goal.returns-then-n-eq3
 returns-then-n-eq3 c = record {
-  is-the-sequence-there =
-      at_3 c.args.bytes.now c.args.at (omega arith) c.byte-at-b.result c.byte-at-c.result c.both-go-on.result c.hold-then-n-eq3.result
-      (sym c.sequence-length-n.ensures.is-that-of-the-lead-byte ∙ c.if-n-eq3.true) c.byte-at-b.ensures.is-the-byte-or-zero-past-the-end c.byte-at-c.ensures.is-the-byte-or-zero-past-the-end c.both-go-on.ensures c.hold-then-n-eq3.ensures;
+  is_the_sequence_there =
+      at_3 c.args.bytes.now c.args.at (omega arith) c.byte_at-b.result c.byte_at-c.result c.both_go_on.result c.hold-then-n-eq3.result
+      (sym c.sequence_length-n.ensures.is_that_of_the_lead_byte ∙ c.if-n-eq3.true) c.byte_at-b.ensures.is_the_byte_or_zero_past_the_end c.byte_at-c.ensures.is_the_byte_or_zero_past_the_end c.both_go_on.ensures c.hold-then-n-eq3.ensures;
 }
 
 pub returns : goal.returns
 returns c = record {
-  is-the-sequence-there =
-      at_4 c.args.bytes.now c.args.at (omega arith) c.byte-at-b.result c.byte-at-c.result c.byte-at-d.result c.all-go-on.result c.hold-2.result
-      (four (get_or c.args.bytes.now c.args.at 0) c.sequence-length-n.result c.sequence-length-n.ensures.is-that-of-the-lead-byte c.if-n-eq0.false c.if-n-eq1.false c.if-n-eq2.false c.if-n-eq3.false)
-      c.byte-at-b.ensures.is-the-byte-or-zero-past-the-end c.byte-at-c.ensures.is-the-byte-or-zero-past-the-end c.byte-at-d.ensures.is-the-byte-or-zero-past-the-end c.all-go-on.ensures c.hold-2.ensures;
+  is_the_sequence_there =
+      at_4 c.args.bytes.now c.args.at (omega arith) c.byte_at-b.result c.byte_at-c.result c.byte_at-d.result c.all_go_on.result c.hold-2.result
+      (four (get_or c.args.bytes.now c.args.at 0) c.sequence_length-n.result c.sequence_length-n.ensures.is_that_of_the_lead_byte c.if-n-eq0.false c.if-n-eq1.false c.if-n-eq2.false c.if-n-eq3.false)
+      c.byte_at-b.ensures.is_the_byte_or_zero_past_the_end c.byte_at-c.ensures.is_the_byte_or_zero_past_the_end c.byte_at-d.ensures.is_the_byte_or_zero_past_the_end c.all_go_on.ensures c.hold-2.ensures;
 }
 
 pub returns-then-at-bytes : goal.returns-then-at-bytes
-returns-then-at-bytes c = record { is-the-sequence-there = sym (at_drop_all sequence c.args.bytes.now c.args.at (omega arith) ∙ sequence-none) }
+returns-then-at-bytes c = record { is_the_sequence_there = sym (at_drop_all sequence c.args.bytes.now c.args.at (omega arith) ∙ sequence-none) }

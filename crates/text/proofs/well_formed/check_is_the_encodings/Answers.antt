@@ -3,7 +3,7 @@ use Rattle.text.proofs.well_formed.check_is_the_encodings.Goals as goal
 
 pub returns : goal.returns
 returns c = record {
-  accepts-exactly-the-well-formed = formed.accepted;
-  place-is-the-first-breach = formed.placed;
-  nothing-longer-is-well-formed = formed.longest;
+  accepts_exactly_the_well_formed = formed.accepted;
+  place_is_the_first_breach = formed.placed;
+  nothing_longer_is_well_formed = formed.longest;
 }

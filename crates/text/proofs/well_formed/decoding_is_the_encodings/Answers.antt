@@ -3,7 +3,7 @@ use Rattle.text.proofs.well_formed.decoding_is_the_encodings.Goals as goal
 
 pub returns : goal.returns
 returns c = record {
-  sequences-are-encodings = formed.sequences;
-  flag-is-set-by-surrogates = formed.marks;
-  code-points-are-read = formed.read;
+  sequences_are_encodings = formed.sequences;
+  flag_is_set_by_surrogates = formed.marks;
+  code_points_are_read = formed.read;
 }

@@ -4,7 +4,7 @@ use Rattle.buffer.proofs.line_watch.LineWatch.new.Goals as goal
 
 pub returns : goal.returns
 returns g c = record {
-  holds-the-buffer-as-it-came = refl;
-  has-counted-nothing-yet = search rules;
-  tally-is-plain-counts = plain-counts;
+  holds_the_buffer_as_it_came = refl;
+  has_counted_nothing_yet = search rules;
+  tally_is_plain_counts = plain-counts;
 }

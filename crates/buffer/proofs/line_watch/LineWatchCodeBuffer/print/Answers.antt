@@ -11,7 +11,7 @@ returns g c =
     let limit = m.limit_of before.below in
     let text = c.args.text.now in
     let after = length (m.bytes c.print.new.self) in
-    let said = sym c.in-ok-print.was ∙ c.print.ensures.answers_seven_with_the_need in
+    let said = sym c.in_ok-print.was ∙ c.print.ensures.answers_seven_with_the_need in
     let room = ok_fits held limit text said in
     let long : after ≡ length held + length text =
     ap length (c.print.ensures.appends_all_or_nothing ∙ printed-fits held limit text room) ∙ length-append held text in
@@ -19,8 +19,8 @@ returns g c =
     let column = c.tallied-lines.result.1 in
     let all_lines : min lines after ≡ lines = omega arith in
     let all-column : min column after ≡ column = omega arith in
-    let was-lines : c.line-feeds-lines.result ≡ min before.lines (length held) = c.line-feeds-lines.ensures.answers-how-many-line-feeds-came in
-    let was-column : c.column-column.result ≡ min before.column (length held) = c.column-column.ensures.answers-how-many-bytes-came-since in
+    let was-lines : c.line_feeds-lines.result ≡ min before.lines (length held) = c.line_feeds-lines.ensures.answers_how_many_line_feeds_came in
+    let was-column : c.column-column.result ≡ min before.column (length held) = c.column-column.ensures.answers_how_many_bytes_came_since in
     record {
       answers_seven_with_the_need = said;
       appends_all_or_nothing = c.print.ensures.appends_all_or_nothing;
@@ -30,7 +30,7 @@ returns g c =
       notes_what_was_appended = record {
         counts_what_was_appended =
             (λ i. tally_of (all_lines i) (all-column i))
-            ∙ c.tallied-lines.ensures.counts-on
+            ∙ c.tallied-lines.ensures.counts_on
             ∙ (λ i. tally (tally_of (was-lines i) (was-column i)) (sym (accepted-fits held limit text room) i));
         noted_below = c.print.ensures.notes_what_was_appended;
       };

@@ -9,7 +9,7 @@ returns c =
     let cells = c.args.self.now.cells in
     let used = c.args.self.now.used in
     let text = c.args.text.now in
-    let inv = put_mid-paste used (used + length text - used) cells c.copy-from-slice.new.self text (length text) c.copy-from-slice.ensures.after (omega arith) refl in
+    let inv = put_mid-paste used (used + length text - used) cells c.copy_from_slice.new.self text (length text) c.copy_from_slice.ensures.after (omega arith) refl in
     let room : used + length text ≤ owned_limit = omega arith in
     let top : owned_limit ≤ length cells = omega arith in
     record {

@@ -7,15 +7,15 @@ use Rattle.codegen.proofs.raw_state.RawState.advance.Goals as goal
 pub keep-requires : goal.keep-requires
 keep-requires g c = record { inside = c.requires.inside; within = on_within g.B.CodeBuffer c.args.style c.args.self.now (Keep c.in-Keep.n) c.requires.ready c.requires.inside c.in-Keep.ensures }
 
-pub flush-and-print-requires : goal.flush-and-print-requires
-flush-and-print-requires g c =
-    let r = c.raw-turn-turn.result in
-    let t = puts-text c.args.style.mode (raw_ahead c.args.self.now) r c.in-default.not-Keep in
+pub flush_and_print-requires : goal.flush_and_print-requires
+flush_and_print-requires g c =
+    let r = c.raw_turn-turn.result in
+    let t = puts-text c.args.style.mode (raw_ahead c.args.self.now) r c.in_default.not-Keep in
     record {
       order = c.requires.ready.order;
       inside = c.requires.inside;
-      within = on_within g.B.CodeBuffer c.args.style c.args.self.now r c.requires.ready c.requires.inside c.raw-turn-turn.ensures;
-      room = let room = turn_room g.B.CodeBuffer c.args.style c.args.self.now r c.requires.ready c.requires.inside c.raw-turn-turn.ensures c.args.code.now c.requires.room in omega (arith, ap length t);
+      within = on_within g.B.CodeBuffer c.args.style c.args.self.now r c.requires.ready c.requires.inside c.raw_turn-turn.ensures;
+      room = let room = turn_room g.B.CodeBuffer c.args.style c.args.self.now r c.requires.ready c.requires.inside c.raw_turn-turn.ensures c.args.code.now c.requires.room in omega (arith, ap length t);
     }
 
 pub returns-in-Keep : goal.returns-in-Keep
@@ -24,10 +24,10 @@ returns-in-Keep g c = record {
   further = subst (λ n. c.args.self.now.at < n) (sym (ap (λ x. x.at) c.keep.ensures.moves)) (further g.B.CodeBuffer c.args.style c.args.self.now (Keep c.in-Keep.n) c.requires.ready c.requires.inside c.in-Keep.ensures);
 }
 
-pub returns-in-default : goal.returns-in-default
-returns-in-default g c =
-    let r = c.raw-turn-turn.result in
+pub returns-in_default : goal.returns-in_default
+returns-in_default g c =
+    let r = c.raw_turn-turn.result in
     record {
-      advanced = printed_on g.B.CodeBuffer c.args.style c.args.self.now r c.requires.ready c.requires.inside c.raw-turn-turn.ensures _ (puts-text c.args.style.mode (raw_ahead c.args.self.now) r c.in-default.not-Keep) c.flush-and-print.new.self c.flush-and-print.ensures.moves c.flush-and-print.ensures.appends;
-      further = subst (λ n. c.args.self.now.at < n) (sym (ap (λ x. x.at) c.flush-and-print.ensures.moves)) (further g.B.CodeBuffer c.args.style c.args.self.now r c.requires.ready c.requires.inside c.raw-turn-turn.ensures);
+      advanced = printed_on g.B.CodeBuffer c.args.style c.args.self.now r c.requires.ready c.requires.inside c.raw_turn-turn.ensures _ (puts-text c.args.style.mode (raw_ahead c.args.self.now) r c.in_default.not-Keep) c.flush_and_print.new.self c.flush_and_print.ensures.moves c.flush_and_print.ensures.appends;
+      further = subst (λ n. c.args.self.now.at < n) (sym (ap (λ x. x.at) c.flush_and_print.ensures.moves)) (further g.B.CodeBuffer c.args.style c.args.self.now r c.requires.ready c.requires.inside c.raw_turn-turn.ensures);
     }

@@ -2,10 +2,10 @@ use Rattle.std.proofs.Common.{arith}
 use Rattle.codegen.proofs.Advance.{joined, room_kept, after_settling}
 use Rattle.codegen.proofs.state.PrintStringState.advance.Goals as goal
 
-pub take-turn-requires : goal.take-turn-requires
-take-turn-requires g c =
-    let e = c.settle-where-decisive.ensures in
-    let a = after_settling c.args.escaping.ascii_only c.args.escaping.lone c.args.self.now c.requires.inside c.settle-where-decisive.new.self e.settles in
+pub take_turn-requires : goal.take_turn-requires
+take_turn-requires g c =
+    let e = c.settle_where_decisive.ensures in
+    let a = after_settling c.args.escaping.ascii_only c.args.escaping.lone c.args.self.now c.requires.inside c.settle_where_decisive.new.self e.settles in
     record {
       table = c.requires.table;
       ready = e.advanced.ready;
@@ -16,10 +16,10 @@ take-turn-requires g c =
 
 pub returns : goal.returns
 returns g c =
-    let e = c.settle-where-decisive.ensures in
-    let a = after_settling c.args.escaping.ascii_only c.args.escaping.lone c.args.self.now c.requires.inside c.settle-where-decisive.new.self e.settles in
-    let f = c.take-turn.ensures.further in
+    let e = c.settle_where_decisive.ensures in
+    let a = after_settling c.args.escaping.ascii_only c.args.escaping.lone c.args.self.now c.requires.inside c.settle_where_decisive.new.self e.settles in
+    let f = c.take_turn.ensures.further in
     record {
-      advanced = joined g.B.CodeBuffer c.args.escaping.ascii_only c.args.escaping.lone e.advanced c.take-turn.ensures.advanced;
+      advanced = joined g.B.CodeBuffer c.args.escaping.ascii_only c.args.escaping.lone e.advanced c.take_turn.ensures.advanced;
       further = omega (arith, a.2);
     }

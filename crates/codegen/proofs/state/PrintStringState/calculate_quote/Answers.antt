@@ -7,8 +7,8 @@ use Rattle.buffer.specs.Printing.{Appends}
 use Rattle.codegen.proofs.Cursor.{is_quote, is_settled, is_opening}
 use Rattle.codegen.proofs.state.PrintStringState.calculate_quote.Goals as goal
 
-pub choose-quote-q-requires : goal.choose-quote-q-requires
-choose-quote-q-requires g c =
+pub choose_quote-q-requires : goal.choose_quote-q-requires
+choose_quote-q-requires g c =
     let bytes = c.args.self.now.bytes.now in
     let at = c.args.self.now.at in
     let rest = sym (take_rest bytes at) in
@@ -20,11 +20,11 @@ choose-quote-q-requires g c =
 pub returns-in-None : goal.returns-in-None
 returns-in-None g c =
     let s = c.args.self.now in
-    let q = c.choose-quote-q.result in
-    let chose = c.choose-quote-q.ensures ∙ ap (λ t. chosen s.allow_backtick (code_points t)) (take_rest s.bytes.now s.at) in
+    let q = c.choose_quote-q.result in
+    let chose = c.choose_quote-q.ensures ∙ ap (λ t. chosen s.allow_backtick (code_points t)) (take_rest s.bytes.now s.at) in
     let none = sym c.in-None.is in
     record {
       answers = is_quote s none q chose;
       settles = is_settled s none q chose;
-      appends = subst (Appends g.B.CodeBuffer c.args.code.now c.print-with-room.new.code) (ap (λ b. b ∷ []) c.quote-byte.ensures ∙ is_opening s none q chose) c.print-with-room.ensures;
+      appends = subst (Appends g.B.CodeBuffer c.args.code.now c.print_with_room.new.code) (ap (λ b. b ∷ []) c.quote_byte.ensures ∙ is_opening s none q chose) c.print_with_room.ensures;
     }

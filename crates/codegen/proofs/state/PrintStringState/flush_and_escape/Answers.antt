@@ -13,5 +13,5 @@ returns g c =
     let room = room_behind g.B.CodeBuffer (0x5C ∷ behind c.args.c c.args.e) c.flush.ensures.appends (omega (arith, c.requires.room)) in
     record {
       moves = ap (λ x. start_chunk (consume c.args.n x)) c.flush.ensures.settles;
-      appends = appends_join g.B.CodeBuffer c.flush.ensures.appends (prints_with_room g.B.CodeBuffer c.print-escape.ensures.prints-the-escape-whole-or-not-at-all room);
+      appends = appends_join g.B.CodeBuffer c.flush.ensures.appends (prints_with_room g.B.CodeBuffer c.print_escape.ensures.prints_the_escape_whole_or_not_at_all room);
     }

@@ -4,21 +4,21 @@ use Rattle.job.specs.Jobs.{drafted, with_limit}
 use Rattle.job.proofs.Drafts.{limit_late, limit_twice, limit_in_time}
 use Rattle.job.proofs.reading.Draft.take_limit.Goals as goal
 
-pub returns-then-not-is-empty : goal.returns-then-not-is-empty
-returns-then-not-is-empty c =
-    record { once-before-the-first-call = limit_late c.args.self.now c.args.argument.now c.if-not-is-empty.ensures }
+pub returns-then-not-is_empty : goal.returns-then-not-is_empty
+returns-then-not-is_empty c =
+    record { once_before_the_first_call = limit_late c.args.self.now c.args.argument.now c.if-not-is_empty.ensures }
 
-pub returns-then-is-some : goal.returns-then-is-some
-returns-then-is-some c =
-    record { once-before-the-first-call = limit_twice c.args.self.now c.args.argument.now c.if-not-is-empty.ensures c.if-is-some.ensures }
+pub returns-then-is_some : goal.returns-then-is_some
+returns-then-is_some c =
+    record { once_before_the_first_call = limit_twice c.args.self.now c.args.argument.now c.if-not-is_empty.ensures c.if-is_some.ensures }
 
-pub returns-in-err-limit : goal.returns-in-err-limit
-returns-in-err-limit c =
-    let p = err_from_is_err_and c.from-residual.result c.from-residual.ensures.1 in
-    let e = limit_in_time c.args.self.now c.args.argument.now c.if-not-is-empty.ensures c.if-is-some.ensures in
-    rw (p.1, p.2) (record { once-before-the-first-call = e ∙ ap (with_limit (drafted c.args.self.now)) (sym c.in-err-limit.ensures.one-number-up-to-the-largest) })
+pub returns-in_err-limit : goal.returns-in_err-limit
+returns-in_err-limit c =
+    let p = err_from_is_err_and c.from_residual.result c.from_residual.ensures.1 in
+    let e = limit_in_time c.args.self.now c.args.argument.now c.if-not-is_empty.ensures c.if-is_some.ensures in
+    rw (p.1, p.2) (record { once_before_the_first_call = e ∙ ap (with_limit (drafted c.args.self.now)) (sym c.in_err-limit.ensures.one_number_up_to_the_largest) })
 
 pub returns : goal.returns
 returns c =
-    let e = limit_in_time c.args.self.now c.args.argument.now c.if-not-is-empty.ensures c.if-is-some.ensures in
-    record { once-before-the-first-call = e ∙ ap (with_limit (drafted c.args.self.now)) (sym c.in-ok-limit.ensures.one-number-up-to-the-largest) }
+    let e = limit_in_time c.args.self.now c.args.argument.now c.if-not-is_empty.ensures c.if-is_some.ensures in
+    record { once_before_the_first_call = e ∙ ap (with_limit (drafted c.args.self.now)) (sym c.in_ok-limit.ensures.one_number_up_to_the_largest) }
