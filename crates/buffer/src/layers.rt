@@ -22,7 +22,7 @@ fn print_over_a_watch<B: CodeBuffer>(
     code: &mut Quota<LineWatch<B>>,
     text: &[u8],
 ) -> Result<(), BufferFault>
-    ensures watch_below_counts { counts B.CodeBuffer code.new.below ≡ tally (counts B.CodeBuffer code.old.below) (accepted (bytes code.old.below.below) (quota_limit (length (bytes code.old.below.below)) code.old.quota (limit_of code.old.below.below)) text.now) }
+    ensures watch_below_counts { counts B.CodeBuffer code.new.below ≡ tally (counts B.CodeBuffer code.old.below) (accepted (B.bytes code.old.below.below) (quota_limit (length (B.bytes code.old.below.below)) code.old.quota (B.limit_of code.old.below.below)) text.now) }
 {
     print_to_any(code, text)
 }

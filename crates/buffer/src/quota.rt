@@ -49,7 +49,7 @@ impl<B: CodeBuffer> Quota<B> {
     /// Lays a quota over this buffer; the limit is fixed here.
     pub fn new(below: B, quota: usize) -> Quota<B>
         ensures holds_the_buffer_as_it_came { result.below ≡ below }
-        ensures fixes_the_limit { quota_limit (length (bytes result.below)) result.quota (limit_of result.below) ≡ quota_limit (length (bytes below)) quota (limit_of below) }
+        ensures fixes_the_limit { quota_limit (length (B.bytes result.below)) result.quota (B.limit_of result.below) ≡ quota_limit (length (B.bytes below)) quota (B.limit_of below) }
     {
         Quota { below, quota }
     }

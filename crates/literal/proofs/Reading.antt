@@ -1,6 +1,6 @@
 -- What is printed of a text denotes the text.
 use Rattle.std.proofs.Common.{◌≡◌, ℕ, ◌<◌, ◌≤◌, Bool, true, false, eqb, List, [], ◌∷◌, ◌++◌, sym, refl, ap, ⊎_elim, append_assoc, arith}
-use Rattle.std.proofs.lemmas.Bool.{and_parts, eqb-true, eqb-false, cases_eq, not_true}
+use Rattle.std.proofs.lemmas.Bool.{and_parts, eqb-true, eqb-false, cases_eq, not-true}
 use Rattle.std.proofs.lemmas.Bool.Decides.{nat_tests}
 use Rattle.ecma262.specs.Units.{Text, mark, utf16, units}
 use Rattle.ecma262.specs.declared.Quote.{Quote}
@@ -61,7 +61,7 @@ module _ (c : ℕ) (rest : List ℕ) where
       ⊹ quote_row q
       ⊹ (λ t. same_row 0x24 dollar (and_parts _ _ (and_parts _ _ t).0).1)
       ⊹ (λ t. by_two c rest (grind (arith, nat_tests)))
-      ⊹ (λ t. let b = and_parts _ _ t in null_row (follows (not_true _ b.1)) b.0)
+      ⊹ (λ t. let b = and_parts _ _ t in null_row (follows (not-true _ b.1)) b.0)
       ⊹ (λ t. by_two c rest (omega (arith, eqb-true)))
       ⊹ single_row backspace (omega arith)
       ⊹ single_row vertical_tab (omega arith)

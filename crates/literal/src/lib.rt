@@ -16,6 +16,7 @@
 //! - specs/Samples: worked examples.
 //! - specs/Quiet: a test of escapes that proofs use.
 #![tactic(auto)]
+
 ghost use Rattle.literal.specs.Laws.{Denoted, Returned, Scalars, Tagless, InBytes, Plain, Shortest, Standing};
 ghost use Rattle.literal.specs.RawLaws.{PieceInOneWalk, TaggedInOneWalk, OthersInOneWalk, PieceKept, TaggedKept, DirectiveKept, RegexKept, NameRead, PieceTagless, TaggedTagless, RawAscii};
 ghost use Rattle.literal.specs.Samples.{Samples};

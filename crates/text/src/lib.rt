@@ -12,6 +12,7 @@
 //! `specs/Laws.antt` has the theorems that tie the two. The breach of template text is defined in crate `ecma262`; `specs/Template.antt` says
 //! what the code computes of it. Nothing here allocates: a maker takes over the bytes that it is given.
 #![tactic(auto)]
+
 pub mod fault;
 pub mod js_str;
 pub mod names;

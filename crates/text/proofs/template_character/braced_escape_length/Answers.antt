@@ -12,8 +12,8 @@ pub returns-in-None : goal.returns-in-None
 returns-in-None c =
     sym (no_digit c.args.bytes.now c.loop-i.i c.loop-i.value c.loop-i-test.true c.if-bytes-i-eq125.false (sym c.in-None.ensures)) ∙ c.loop-i.invariant.0
 
-pub returns-then-value-gt-MAX-CODE-POINT : goal.returns-then-value-gt-MAX-CODE-POINT
-returns-then-value-gt-MAX-CODE-POINT c =
+pub returns-then-value-gt-MAX_CODE_POINT : goal.returns-then-value-gt-MAX_CODE_POINT
+returns-then-value-gt-MAX_CODE_POINT c =
     sym (too_high c.args.bytes.now c.loop-i.i c.loop-i.value c.loop-i-test.true c.if-bytes-i-eq125.false c.in-Some.digit (sym c.in-Some.ensures) (omega arith)) ∙ c.loop-i.invariant.0
 
 pub loop-i-preserved : goal.loop-i-preserved
