@@ -60,23 +60,23 @@ template-fits held bytes h e = let g = good-template held h in subst (λ b. Fit 
 
 -- what is printed
 
-piece_is : (minify ascii : Bool) (held bytes : List ℕ) → bytes ≡ held → raw_body minify ascii TemplateRaw true false bytes ≡ piece_bytes minify ascii held
+pub piece_is : (minify ascii : Bool) (held bytes : List ℕ) → bytes ≡ held → raw_body minify ascii TemplateRaw true false bytes ≡ piece_bytes minify ascii held
 unfolding raw_body piece_bytes
 piece_is minify ascii held bytes e = ap (λ b. raw_body minify ascii TemplateRaw true false b) e ∙ ap encodes (sym (piece_in_one_walk minify ascii (code_points held)))
 
-tagged_is : (held bytes : List ℕ) → bytes ≡ held → raw_body false false TemplateRaw true false bytes ≡ tagged_bytes held
+pub tagged_is : (held bytes : List ℕ) → bytes ≡ held → raw_body false false TemplateRaw true false bytes ≡ tagged_bytes held
 unfolding raw_body tagged_bytes
 tagged_is held bytes e = ap (λ b. raw_body false false TemplateRaw true false b) e ∙ ap encodes (sym (tagged_in_one_walk (code_points held)))
 
-directive_is : (ascii : Bool) (held bytes : List ℕ) → bytes ≡ held → raw_body false ascii Directive false false bytes ≡ directive_bytes ascii held
+pub directive_is : (ascii : Bool) (held bytes : List ℕ) → bytes ≡ held → raw_body false ascii Directive false false bytes ≡ directive_bytes ascii held
 unfolding raw_body directive_bytes
 directive_is ascii held bytes e = ap (λ b. raw_body false ascii Directive false false b) e ∙ ap encodes (sym (others_in_one_walk ascii (code_points held)).0)
 
-regex_is : (ascii : Bool) (held bytes : List ℕ) → bytes ≡ held → raw_body false ascii RegExp false false bytes ≡ regex_bytes ascii held
+pub regex_is : (ascii : Bool) (held bytes : List ℕ) → bytes ≡ held → raw_body false ascii RegExp false false bytes ≡ regex_bytes ascii held
 unfolding raw_body regex_bytes
 regex_is ascii held bytes e = ap (λ b. raw_body false ascii RegExp false false b) e ∙ ap encodes (sym (others_in_one_walk ascii (code_points held)).1)
 
-name_is : (ascii : Bool) (held bytes : List ℕ) → bytes ≡ held → raw_body false ascii Identifier false false bytes ≡ name_bytes ascii held
+pub name_is : (ascii : Bool) (held bytes : List ℕ) → bytes ≡ held → raw_body false ascii Identifier false false bytes ≡ name_bytes ascii held
 unfolding raw_body name_bytes
 name_is ascii held bytes e = ap (λ b. raw_body false ascii Identifier false false b) e ∙ ap encodes (sym (others_in_one_walk ascii (code_points held)).2)
 

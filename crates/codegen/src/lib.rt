@@ -19,6 +19,7 @@
 //! `specs/RawLaws.antt` do so for raw text. `specs/Classes.antt`, `specs/Turns.antt`, `specs/Cursor.antt`, `specs/RawTurns.antt` and
 //! `specs/RawCursor.antt` are for the inner functions alone.
 #![tactic(auto)]
+
 mod costs;
 mod escape;
 mod escape_sequence;

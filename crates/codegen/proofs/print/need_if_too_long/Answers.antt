@@ -12,7 +12,7 @@ returns-then-held-bytes g c =
     omega arith
 
 pub returns-then-need-limit : goal.returns-then-need-limit
-returns-then-need-limit g c = let z = c.literal_size_lem.ensures.is in (omega arith, omega arith)
+returns-then-need-limit g c = let z = c.literal_size.ensures.is in (omega arith, omega arith)
 
 pub returns : goal.returns
-returns g c = let z = c.literal_size_lem.ensures.is in omega arith
+returns g c = let z = c.literal_size.ensures.is in omega arith

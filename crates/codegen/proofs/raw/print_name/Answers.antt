@@ -1,4 +1,4 @@
-use Rattle.std.proofs.Common.{subst}
+use Rattle.std.proofs.Common.{subst, arith}
 use Rattle.buffer.specs.Printing.{Prints}
 use Rattle.codegen.proofs.RawKept.{name-fits, name_is, name_ascii, name_back}
 use Rattle.codegen.proofs.raw.print_name.Goals as goal
@@ -7,7 +7,7 @@ pub print_raw-requires : goal.print_raw-requires
 print_raw-requires g c =
     let t = c.args.name.now in
     let f = name-fits t.bytes.items c.as_bytes.result.now t.good c.as_bytes.ensures.are_the_names in
-    record { fit = f.0; small = f.1 }
+    record { fit = f.0; small = omega (arith, f.1) }
 
 pub returns : goal.returns
 returns g c =
