@@ -7,6 +7,7 @@
 //!
 //! `specs/Answers.antt` has the answer and what `out` holds then; `answer` packs an answer into one number.
 #![tactic(auto)]
+
 ghost use Rattle.std.specs.Prelude.{◌≡◌, false};
 ghost use Rattle.text.specs.Answers.{text_answer};
 ghost use Rattle.codegen.specs.Strings.{literal_bytes};

@@ -17,14 +17,17 @@ mod usage;
 use failure::Failure;
 use request::{Request, request_of};
 use setting::set_page;
+use std::process::ExitCode;
 use usage::USAGE;
 
-fn main(rt: HostRuntime) -> Result<(), Failure> {
-    let ended = run(&rt);
-    if let Err(failure) = &ended {
-        let _ = eprintln!(rt; "plantpage: {failure}");
+fn main(rt: HostRuntime) -> ExitCode {
+    match run(&rt) {
+        Ok(()) => ExitCode::SUCCESS,
+        Err(failure) => {
+            let _ = eprintln!(rt; "plantpage: {failure}");
+            ExitCode::FAILURE
+        }
     }
-    ended
 }
 
 fn run(rt: &HostRuntime) -> Result<(), Failure> {
