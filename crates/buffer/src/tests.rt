@@ -69,7 +69,7 @@ fn a_quota_never_falls_below_what_is_held(rt: HostRuntime) {
     let limit = code.limit();
     let owned = code.into_inner().into_inner();
     assert_eq!(rt; (told, limit), ((0, 5), 4));
-    assert_eq!(rt; owned.as_bytes(), b"ab\nc");
+    assert_eq!(rt; owned.as_bytes(), b"ab\nc".as_slice());
 }
 
 #[test]

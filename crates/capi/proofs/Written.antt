@@ -3,7 +3,7 @@ use Rattle.std.proofs.Common.{◌≡◌, ℕ, ◌+◌, ◌*◌, ◌<◌, ◌≤�
 use Rattle.std.proofs.lemmas.List.{take-append-drop, length-take-le}
 use Rattle.std.proofs.lemmas.Bool.{eqb-true, eqb-false}
 use Rattle.refusal.specs.Returned.{Returned, answer, told}
-use Rattle.buffer.specs.Faults.{returned as bufferReturned}
+use Rattle.buffer.specs.Faults.{returned as buffer_returned}
 use Rattle.buffer.specs.Kinds.{slice_limit, slice_bytes}
 use Rattle.buffer.specs.Meaning.{print_answer, accepted}
 use Rattle.codegen.specs.declared.fault.PrintFault.{PrintFault}
@@ -22,7 +22,7 @@ not_zero (Text (NotName place)) e = omega arith
 not_zero (Text (NotTemplate place)) e = omega arith
 not_zero (Buffer (Full need)) e = omega arith
 
-by_room : (f : Bool) (n : ℕ) → bufferReturned {X = Unit {0}} (cond f (Ok tt) (Err (Full n))) ≡ cond f (answer 0 0) (answer 7 n)
+by_room : (f : Bool) (n : ℕ) → buffer_returned {X = Unit {0}} (cond f (Ok tt) (Err (Full n))) ≡ cond f (answer 0 0) (answer 7 n)
 by_room true n = refl
 by_room false n = refl
 
@@ -89,13 +89,13 @@ module _ (check : Returned) (out text : List ℕ) where
     pub cells_are : drop (length (slice_bytes used cells)) cells ≡ drop (length (slice_bytes used cells)) cells0 → cells ≡ out_after check out text
     cells_are beyond = written used cells holds (beyond ∙ ap (drop (length (slice_bytes used cells))) came)
 
-    room_told : bufferReturned (print_answer (slice_bytes used0 cells0) (slice_limit cells0) text) ≡ cond (fits out text) (answer 0 0) (answer 7 (length text))
+    room_told : buffer_returned (print_answer (slice_bytes used0 cells0) (slice_limit cells0) text) ≡ cond (fits out text) (answer 0 0) (answer 7 (length text))
     room_told =
-        ap (λ h. bufferReturned (print_answer h (slice_limit cells0) text)) empty ∙ ap (λ c. bufferReturned (print_answer [] (slice_limit c) text)) came
-        ∙ ap (λ n. bufferReturned (cond (leb n (slice_limit out)) (Ok tt) (Err (Full n)))) (zero-add (length text)) ∙ by_room (fits out text) (length text)
+        ap (λ h. buffer_returned (print_answer h (slice_limit cells0) text)) empty ∙ ap (λ c. buffer_returned (print_answer [] (slice_limit c) text)) came
+        ∙ ap (λ n. buffer_returned (cond (leb n (slice_limit out)) (Ok tt) (Err (Full n)))) (zero-add (length text)) ∙ by_room (fits out text) (length text)
 
     pub answered : (r : Result Unit PrintFault) (printed : ℕ) → printed ≡ length (slice_bytes used cells) →
-        returned r ≡ unless_refused check (bufferReturned (print_answer (slice_bytes used0 cells0) (slice_limit cells0) text)) check → answer_with r printed ≡ answer_for check out text
+        returned r ≡ unless_refused check (buffer_returned (print_answer (slice_bytes used0 cells0) (slice_limit cells0) text)) check → answer_with r printed ≡ answer_for check out text
     answered r printed p e = told_so r printed (p ∙ ap length holds) (e ∙ ap (λ t. unless_refused check t check) room_told)
 
 -- the caller's bytes are the cells that were left

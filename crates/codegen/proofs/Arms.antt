@@ -2,7 +2,7 @@
 use Rattle.std.proofs.Common.{◌≡◌, ℕ, ◌+◌, ◌<◌, ◌≤◌, Bool, true, false, cond, not, ◌&&◌, ◌||◌, eqb, ltb, leb, ◌⊎◌, List, [], ◌∷◌, ◌++◌, length, get_or, drop, Some, None, Option, sym, refl, ap, ◌∙◌, subst, ⊎_elim, add-zero, arith, length-drop}
 use lib.Utf8.{encode, encodes}
 use Rattle.std.specs.Char.{len_utf8}
-use Rattle.std.specs.List.{AllByRecursion as All}
+use Rattle.std.specs.List.{AllByRecursion}
 use Rattle.std.proofs.lemmas.List.{get_or-drop, drop-drop}
 use Rattle.std.proofs.lemmas.Str.{len_utf8_ascii}
 use Rattle.std.proofs.lemmas.Bool.{and_left, and_right, and_parts, eqb-true, ne_eqb, both_ways, cases_Bool, cases_lt, cond_both}
@@ -150,7 +150,7 @@ module _ (q : Quote) (ascii lone : Bool) (bytes : List ℕ) (at : ℕ) (h : at <
   pub tag_arm : opens tag (drop at bytes) ≡ true → Turned q ascii lone (drop at bytes) Tag
   tag_arm t = go f.cs f.others f.here (and_parts (eqb 0x3C f.c) _ (sym tag_same ∙ t))
     where
-      go : (cs : List ℕ) → All (Fine lone) cs → drop at bytes ≡ encode f.c ++ encodes cs → (eqb 0x3C f.c ≡ true) × (opens (eqb 0x2F ∷ script) cs ≡ true) →
+      go : (cs : List ℕ) → AllByRecursion (Fine lone) cs → drop at bytes ≡ encode f.c ++ encodes cs → (eqb 0x3C f.c ≡ true) × (opens (eqb 0x2F ∷ script) cs ≡ true) →
           Turned q ascii lone (drop at bytes) Tag
       go [] a e p = absurd (both_ways false refl p.1)
       go (d ∷ ds) a e p =

@@ -2,7 +2,7 @@
 use Rattle.std.proofs.Common.{◌≡◌, ℕ, ◌≤◌, Bool, true, false, cond, List, [], ◌∷◌, ◌++◌, length, Some, None, Option, sym, refl, ap, ◌∙◌, subst, ⊎_elim, arith}
 use lib.Utf8.{encodes, scalar, scalars, scalar_cases}
 use Rattle.std.proofs.lemmas.Bool.{and_parts}
-use Rattle.std.specs.List.{AllByRecursion as All}
+use Rattle.std.specs.List.{AllByRecursion}
 use Rattle.ecma262.specs.declared.Quote.{Quote}
 use Rattle.ecma262.specs.declared.Quote.TheVariants.{Single, Double}
 use Rattle.ecma262.specs.Units.{Text}
@@ -25,7 +25,7 @@ use Rattle.codegen.specs.Laws.{text_units, InUtf8, ReadBack, ReadOnce, NoScriptE
 use Rattle.codegen.specs.Turns.{Fine}
 use Rattle.codegen.proofs.Texts.{text-fits}
 
-all-points : (lone : Bool) (cs : List ℕ) → All (Fine lone) cs → Text cs
+all-points : (lone : Bool) (cs : List ℕ) → AllByRecursion (Fine lone) cs → Text cs
 all-points lone [] a = tt
 all-points lone (c ∷ cs) a = (a.0.0, all-points lone cs a.1)
 

@@ -2,7 +2,7 @@
 use Rattle.std.proofs.Common.{◌≡◌, ℕ, suc, ◌+◌, ◌-◌, ◌/◌, ◌%◌, ◌<◌, ◌≤◌, Bool, true, false, cond, not, ◌&&◌, ◌||◌, eqb, leb, List, [], ◌∷◌, ◌++◌, length, get_or, take, drop, sym, refl, ap, ◌∙◌, subst, add-zero, arith, length-drop}
 use lib.Utf8.{encode, encodes}
 use Rattle.std.specs.Char.{len_utf8}
-use Rattle.std.specs.List.{AllByRecursion as All}
+use Rattle.std.specs.List.{AllByRecursion}
 use Rattle.std.proofs.lemmas.List.{get_or-drop}
 use Rattle.std.proofs.lemmas.Str.{encodes-append}
 use Rattle.std.proofs.lemmas.Bool.{and_left, and_right, and_parts, eqb-true, ne_eqb, both_ways, le-ltb}
@@ -22,7 +22,7 @@ use Rattle.codegen.specs.RawTurns.{goes_before, raw_body, odd_after, RawTurned}
 use Rattle.codegen.specs.Turns.{Fine, Fit}
 use Rattle.codegen.proofs.Crossing.{lead_byte, lead_byte_lem, low, high}
 use Rattle.codegen.proofs.Steps.{Front, front, reads, fit-encodes, encodes-plain}
-use Rattle.codegen.proofs.RawSteps.{walk_before, wide_kept, line-end, wide-escaped, ascii_kept, slash_kept, slash_dropped, lead}
+use Rattle.codegen.proofs.RawSteps.{walk_before, wide_kept, line_end, wide-escaped, ascii_kept, slash_kept, slash_dropped, lead}
 
 pub not_true : (b : Bool) → not b ≡ true → b ≡ false
 not_true true e = sym e
@@ -68,7 +68,7 @@ goes_same dollars ascii mode cs =
     ap (λ t. t && dollars || opens (leb 0x80 ∷ []) cs && loses_backslash mode && ascii) (dollar-first cs)
     ∙ ap (λ t. eqb (get_or (encodes cs) 0 0) 0x24 && not (eqb (get_or (encodes cs) 1 0) 0x7B) && dollars || t && loses_backslash mode && ascii) (wide-first cs)
 
-pub tag_turn : (dollars ascii : Bool) (mode : NonAsciiEscape) (tags odd : Bool) (ds : List ℕ) → All (Fine false) ds → opens script ds ≡ true → tags ≡ true →
+pub tag_turn : (dollars ascii : Bool) (mode : NonAsciiEscape) (tags odd : Bool) (ds : List ℕ) → AllByRecursion (Fine false) ds → opens script ds ≡ true → tags ≡ true →
     RawTurned dollars ascii mode tags odd (0x3C ∷ 0x2F ∷ encodes ds) Tag
 unfolding raw_body
 tag_turn dollars ascii mode tags odd ds a h t =
@@ -121,7 +121,7 @@ module _ (dollars ascii : Bool) (mode : NonAsciiEscape) (tags odd : Bool) (bytes
     kept_wide a = wide_kept dollars ascii mode tags odd (drop at bytes) f is_wide r.1 (ap (λ x. x.1) is_seq) a
 
     pub ended_line : ascii ≡ true → (is_separator r.0 && odd && continues_lines mode) ≡ true → RawTurned dollars ascii mode tags odd (drop at bytes) (LineEnd r.1)
-    ended_line a e = line-end dollars ascii mode tags odd (drop at bytes) f is_wide r.1 (ap (λ x. x.1) is_seq) a (ap (λ x. is_separator x.0 && odd && continues_lines mode) (sym is_seq) ∙ e)
+    ended_line a e = line_end dollars ascii mode tags odd (drop at bytes) f is_wide r.1 (ap (λ x. x.1) is_seq) a (ap (λ x. is_separator x.0 && odd && continues_lines mode) (sym is_seq) ∙ e)
 
     pub escaped-wide : ascii ≡ true → (is_separator r.0 && odd && continues_lines mode) ≡ false → RawTurned dollars ascii mode tags odd (drop at bytes) (Escaped r.0 r.1)
     escaped-wide a e =
@@ -147,7 +147,7 @@ module _ (dollars ascii : Bool) (mode : NonAsciiEscape) (tags odd : Bool) (bytes
     pub tagged : opens tag (drop at bytes) ≡ true → tags ≡ true → RawTurned dollars ascii mode tags odd (drop at bytes) Tag
     tagged t on = go f.cs f.others f.here (and_parts (eqb 0x3C f.c) _ (sym tag_same ∙ t))
       where
-        go : (cs : List ℕ) → All (Fine false) cs → drop at bytes ≡ encode f.c ++ encodes cs → (eqb 0x3C f.c ≡ true) × (opens (eqb 0x2F ∷ script) cs ≡ true) →
+        go : (cs : List ℕ) → AllByRecursion (Fine false) cs → drop at bytes ≡ encode f.c ++ encodes cs → (eqb 0x3C f.c ≡ true) × (opens (eqb 0x2F ∷ script) cs ≡ true) →
             RawTurned dollars ascii mode tags odd (drop at bytes) Tag
         go [] a e p = absurd (both_ways false refl p.1)
         go (d ∷ ds) a e p =

@@ -1,7 +1,7 @@
 -- Raw text that exists is made of characters; what is printed of it is the walk's; and what the laws say of it.
 use Rattle.std.proofs.Common.{◌≡◌, ℕ, ◌<◌, ◌≤◌, Bool, true, false, ◌||◌, eqb, leb, ◌⊎◌, List, [], ◌∷◌, ◌++◌, length, None, sym, refl, ap, ◌∙◌, subst, inl, inr, ⊎_elim, arith}
 use lib.Utf8.{encodes}
-use Rattle.std.specs.List.{AllByRecursion as All}
+use Rattle.std.specs.List.{AllByRecursion}
 use Rattle.std.proofs.lemmas.Bool.{or_cases, and_parts, eqb-true, leb-true, both_ways}
 use Rattle.ecma262.specs.Units.{Text}
 use Rattle.ecma262.specs.Literals.{Characters, Literal}
@@ -35,7 +35,7 @@ use Rattle.codegen.specs.RawLaws.{Tagless, Ascii, PieceValueKept, TaggedValueKep
 use Rattle.codegen.specs.Turns.{Fine, Fit}
 use Rattle.codegen.proofs.Steps.{fit-encodes}
 
-all_fine : (before : ℕ) (cs : List ℕ) → Points Utf8 before cs → All (Fine false) cs
+all_fine : (before : ℕ) (cs : List ℕ) → Points Utf8 before cs → AllByRecursion (Fine false) cs
 all_fine before [] p = tt
 all_fine before (c ∷ cs) p = ((p.0, λ s. absurd (p.1 (barred_true Utf8 before c s))), all_fine c cs p.2)
 
@@ -168,7 +168,7 @@ name_part : (before c : ℕ) → c ≤ 0x10FFFF → (Barred Utf8 before c → �
 name_part before c h n s =
     ⊎_elim (λ a. inr (name_start before c h n a)) (λ e. let p = and_parts _ _ e in inl (leb-true 0x30 c p.0, leb-true c 0x39 p.1)) (or_cases (starts_name c) (is_digit c) s)
 
-name-parts : (before : ℕ) (cs : List ℕ) → Points Utf8 before cs → Continues cs → All NamePart cs
+name-parts : (before : ℕ) (cs : List ℕ) → Points Utf8 before cs → Continues cs → AllByRecursion NamePart cs
 name-parts before [] p k = tt
 name-parts before (c ∷ cs) p k = (name_part before c p.0 p.1 k.0, name-parts c cs p.2 k.1)
 

@@ -2,7 +2,7 @@
 use Rattle.std.proofs.Common.{◌≡◌, ℕ, suc, ◌+◌, ◌<◌, ◌≤◌, Bool, true, false, cond, not, ◌&&◌, ◌||◌, eqb, leb, List, [], ◌∷◌, ◌++◌, length, get_or, take, drop, sym, refl, ap, ◌∙◌, subst, ⊎_elim, append_assoc, add-zero, arith, length-drop}
 use lib.Utf8.{encode, encodes}
 use Rattle.std.specs.Char.{len_utf8}
-use Rattle.std.specs.List.{AllByRecursion as All}
+use Rattle.std.specs.List.{AllByRecursion}
 use Rattle.std.proofs.lemmas.List.{append-nil, get_or-drop}
 use Rattle.std.proofs.lemmas.Str.{len_utf8_bounds, len_utf8_ascii, encodes-append}
 use Rattle.std.proofs.lemmas.Bool.{and_left, and_right, and_parts, and_from, or_left, cond-true, cond-false, le-leb, lt-leb, eqb-true, ne_eqb, eq-eqb, both_ways, cases_Bool, leb-true}
@@ -45,22 +45,22 @@ walk_before dollars ascii mode tags odd c (d ∷ ds) h = ap (λ s. s ++ raw_walk
 
 -- an escape of a character is ASCII
 
-joined : (s t : List ℕ) → All (λ x. x < 128) s → All (λ x. x < 128) t → All (λ x. x < 128) (s ++ t)
+joined : (s t : List ℕ) → AllByRecursion (λ x. x < 128) s → AllByRecursion (λ x. x < 128) t → AllByRecursion (λ x. x < 128) (s ++ t)
 joined [] t p q = q
 joined (x ∷ s) t p q = (p.0, joined s t p.1 q)
 
-unit-plain : (us : List ℕ) → All (λ x. x < 128) (unit_escapes us)
+unit-plain : (us : List ℕ) → AllByRecursion (λ x. x < 128) (unit_escapes us)
 unit-plain [] = tt
 unit-plain (u ∷ us) = joined (0x5C ∷ behind u (Unicode Upper)) (unit_escapes us) (escape-plain u (Unicode Upper) refl) (unit-plain us)
 
-one_plain : (c : ℕ) → All (λ x. x < 128) (0x5C ∷ behind c (wide c))
+one_plain : (c : ℕ) → AllByRecursion (λ x. x < 128) (0x5C ∷ behind c (wide c))
 one_plain c = by_wide (leb c 0xFFFF)
   where
-    by_wide : (b : Bool) → All (λ x. x < 128) (0x5C ∷ behind c (cond b (Unicode Upper) CodePoint))
+    by_wide : (b : Bool) → AllByRecursion (λ x. x < 128) (0x5C ∷ behind c (cond b (Unicode Upper) CodePoint))
     by_wide true = escape-plain c (Unicode Upper) refl
     by_wide false = escape-plain c CodePoint refl
 
-pub wide-plain : (mode : NonAsciiEscape) (c : ℕ) → All (λ x. x < 128) (wide_escape mode c)
+pub wide-plain : (mode : NonAsciiEscape) (c : ℕ) → AllByRecursion (λ x. x < 128) (wide_escape mode c)
 wide-plain Identifier c = one_plain c
 wide-plain RegExp c = unit-plain (utf16 c)
 wide-plain TemplateRaw c = one_plain c
@@ -148,8 +148,8 @@ module _ (dollars ascii : Bool) (mode : NonAsciiEscape) (tags odd : Bool) (s : L
     escapes : ascii ≡ true → raw_turn dollars ascii mode tags odd 0 f.c f.cs ≡ wide_printed mode odd f.c
     escapes a = turn_escapes dollars ascii mode tags odd f.c f.cs quiet (and_from (leb 0x80 f.c) ascii (le-leb 0x80 f.c h) a)
 
-    pub line-end : ascii ≡ true → (is_separator f.c && odd && continues_lines mode) ≡ true → RawTurned dollars ascii mode tags odd s (LineEnd n)
-    line-end a e =
+    pub line_end : ascii ≡ true → (is_separator f.c && odd && continues_lines mode) ≡ true → RawTurned dollars ascii mode tags odd s (LineEnd n)
+    line_end a e =
         one (LineEnd n) (0x5C ∷ 0x0A ∷ []) w (escapes a ∙ cond-true (is_separator f.c && odd && continues_lines mode) _ _ e) no_tag
         (encodes-plain (0x5C ∷ 0x0A ∷ []) (omega arith))
 

@@ -3,7 +3,7 @@ use Rattle.std.proofs.Common.{◌≡◌, ℕ, suc, ◌+◌, ◌%◌, ◌<◌, �
 use Rattle.std.proofs.lemmas.List.{append-nil, take_at, drop_at}
 use lib.Utf8.{encode, encodes}
 use Rattle.std.specs.Char.{len_utf8}
-use Rattle.std.specs.List.{AllByRecursion as All}
+use Rattle.std.specs.List.{AllByRecursion}
 use Rattle.std.proofs.lemmas.Str.{length-encode, len_utf8_bounds, encodes-append}
 use Rattle.std.proofs.lemmas.Bool.{and_left, and_parts, and_right, cond_both, eqb-true, eqb-false, cases_Bool}
 use Rattle.std.proofs.lemmas.Bool.Decides.{nat_tests}
@@ -25,25 +25,25 @@ use Rattle.codegen.specs.declared.turn.Turn.TheVariants.{Plain, Escaped, Tag}
 use Rattle.codegen.specs.Turns.{Fine, Fit, takes, puts, body, Turned}
 use Rattle.codegen.proofs.Told.{less_rules}
 
-pub reads : (lone : Bool) (cs : List ℕ) → All (Fine lone) cs → code_points (encodes cs) ≡ cs
+pub reads : (lone : Bool) (cs : List ℕ) → AllByRecursion (Fine lone) cs → code_points (encodes cs) ≡ cs
 reads lone [] f = refl
 reads lone (c ∷ cs) f = point_step c (encodes cs) f.0.0 ∙ ap (λ s. c ∷ s) (reads lone cs f.1)
 
-pub fit-encodes : (lone : Bool) (cs : List ℕ) → All (Fine lone) cs → Fit lone (encodes cs)
-fit-encodes lone cs f = let r = reads lone cs f in (ap encodes r, subst (All (Fine lone)) (sym r) f)
+pub fit-encodes : (lone : Bool) (cs : List ℕ) → AllByRecursion (Fine lone) cs → Fit lone (encodes cs)
+fit-encodes lone cs f = let r = reads lone cs f in (ap encodes r, subst (AllByRecursion (Fine lone)) (sym r) f)
 
 -- the first character of bytes that fit
 pub record Front (lone : Bool) (s : List ℕ) : Type 0 where
   pub c : ℕ
   pub cs : List ℕ
   pub fine : Fine lone c
-  pub others : All (Fine lone) cs
+  pub others : AllByRecursion (Fine lone) cs
   pub here : s ≡ encode c ++ encodes cs
 
 pub front : (lone : Bool) (s : List ℕ) → Fit lone s → 0 < length s → Front lone s
 front lone s f h = go (code_points s) f.0 f.1
   where
-    go : (cs : List ℕ) → encodes cs ≡ s → All (Fine lone) cs → Front lone s
+    go : (cs : List ℕ) → encodes cs ≡ s → AllByRecursion (Fine lone) cs → Front lone s
     go [] e a = let l = ap length e in absurd (omega arith)
     go (c ∷ cs) e a = record { c = c; cs = cs; fine = a.0; others = a.1; here = sym e }
 
@@ -63,19 +63,19 @@ printed-before q ascii c (d ∷ ds) h = ap (λ s. s ++ printed q ascii d ds) (sa
     none : (eqb d 0x2F && eqb 0 0x3C && opens script ds) ≡ false
     none = and_left (eqb d 0x2F && false) (opens script ds) (and_right (eqb d 0x2F) false refl)
 
-pub encodes-plain : (s : List ℕ) → All (λ x. x < 128) s → encodes s ≡ s
+pub encodes-plain : (s : List ℕ) → AllByRecursion (λ x. x < 128) s → encodes s ≡ s
 encodes-plain [] a = refl
 encodes-plain (x ∷ s) a = rw (encode_1 x a.0) (ap (λ t. x ∷ t) (encodes-plain s a.1))
 
 -- an escape is ASCII
-pub escape-plain : (c : ℕ) (e : EscapeSequence) → quiet e ≡ true → All (λ x. x < 128) (0x5C ∷ behind c e)
+pub escape-plain : (c : ℕ) (e : EscapeSequence) → quiet e ≡ true → AllByRecursion (λ x. x < 128) (0x5C ∷ behind c e)
 escape-plain c Null h = omega arith
 escape-plain c (Character e) h = let t : e < 128 = grind (arith, nat_tests) in omega arith
 escape-plain c Hex h = omega (arith, hex-quiet)
 escape-plain c (Unicode up) h = omega (arith, hex-quiet)
 escape-plain c CodePoint h = go (ltb c 0x100000)
   where
-    go : (b : Bool) → All (λ x. x < 128) (0x5C ∷ 0x75 ∷ 0x7B ∷ (cond b [] (0x31 ∷ []) ++ five_digits c))
+    go : (b : Bool) → AllByRecursion (λ x. x < 128) (0x5C ∷ 0x75 ∷ 0x7B ∷ (cond b [] (0x31 ∷ []) ++ five_digits c))
     go true = omega (arith, hex-quiet)
     go false = omega (arith, hex-quiet)
 
@@ -142,7 +142,7 @@ slash_rules Single ascii ds h = rw h refl
 slash_rules Double ascii ds h = rw h refl
 slash_rules Backtick ascii ds h = rw h refl
 
-pub tag_turn : (q : Quote) (ascii lone : Bool) (ds : List ℕ) → All (Fine lone) ds → opens script ds ≡ true → Turned q ascii lone (0x3C ∷ 0x2F ∷ encodes ds) Tag
+pub tag_turn : (q : Quote) (ascii lone : Bool) (ds : List ℕ) → AllByRecursion (Fine lone) ds → opens script ds ≡ true → Turned q ascii lone (0x3C ∷ 0x2F ∷ encodes ds) Tag
 unfolding body
 tag_turn q ascii lone ds a h =
     record {

@@ -1,7 +1,7 @@
 -- The costs of the quotes, counted in a text's bytes; and characters that cost nothing in any quotes.
 use Rattle.std.proofs.Common.{◌≡◌, ℕ, ◌+◌, ◌<◌, ◌≤◌, Bool, true, false, cond, ◌&&◌, ◌||◌, eqb, leb, List, [], ◌∷◌, ◌++◌, length, get_or, drop, sym, refl, ap, ◌∙◌, add-zero, arith}
 use lib.Utf8.{encode, encodes}
-use Rattle.std.specs.List.{AllByRecursion as All}
+use Rattle.std.specs.List.{AllByRecursion}
 use Rattle.std.proofs.lemmas.List.{at_drop_more, at_drop_all, get_or-drop}
 use Rattle.std.proofs.lemmas.Bool.{ne_eqb}
 use Rattle.std.proofs.lemmas.Bool.Decides.{nat_tests}
@@ -22,11 +22,11 @@ wide-takes Single x h = refl
 wide-takes Double x h = refl
 wide-takes Backtick x h = rw (ne_eqb x 0x0A (omega arith)) refl
 
-added-wide : (q : Quote) (s t : List ℕ) → All (λ x. 0x80 ≤ x) s → added q (s ++ t) ≡ added q t
+added-wide : (q : Quote) (s t : List ℕ) → AllByRecursion (λ x. 0x80 ≤ x) s → added q (s ++ t) ≡ added q t
 added-wide q [] t a = refl
 added-wide q (x ∷ s) t a = omega (arith, wide-adds q x (s ++ t) a.0, added-wide q s t a.1)
 
-taken-wide : (q : Quote) (s t : List ℕ) → All (λ x. 0x80 ≤ x) s → taken q (s ++ t) ≡ taken q t
+taken-wide : (q : Quote) (s t : List ℕ) → AllByRecursion (λ x. 0x80 ≤ x) s → taken q (s ++ t) ≡ taken q t
 taken-wide q [] t a = refl
 taken-wide q (x ∷ s) t a = omega (arith, wide-takes q x a.0, taken-wide q s t a.1)
 

@@ -1,7 +1,7 @@
 -- A literal is its quotes and its body; and a text that exists is made of characters.
 use Rattle.std.proofs.Common.{◌≡◌, ℕ, suc, ◌+◌, ◌<◌, ◌≤◌, Bool, true, false, cond, ◌||◌, List, [], ◌∷◌, ◌++◌, length, Some, None, Option, sym, refl, ap, ◌∙◌, subst, append_assoc, arith, length-append}
 use lib.Utf8.{encode, encodes}
-use Rattle.std.specs.List.{AllByRecursion as All}
+use Rattle.std.specs.List.{AllByRecursion}
 use Rattle.std.proofs.lemmas.Str.{encodes-append}
 use Rattle.std.proofs.lemmas.Bool.{or_left, or_right}
 use Rattle.ecma262.specs.declared.Quote.{Quote}
@@ -19,7 +19,7 @@ use Rattle.codegen.specs.Strings.{quoted}
 use Rattle.codegen.specs.Turns.{Fine, Fit, body}
 use Rattle.codegen.proofs.Steps.{fit-encodes}
 
-all_fine : (lone : Bool) (before : ℕ) (cs : List ℕ) → Points Wtf8 before cs → (surrogates cs ≡ true → lone ≡ true) → All (Fine lone) cs
+all_fine : (lone : Bool) (before : ℕ) (cs : List ℕ) → Points Wtf8 before cs → (surrogates cs ≡ true → lone ≡ true) → AllByRecursion (Fine lone) cs
 all_fine lone before [] p f = tt
 all_fine lone before (c ∷ cs) p f = ((p.0, λ s. f (or_left (is_surrogate c) (surrogates cs) s)), all_fine lone c cs p.2 (λ s. f (or_right (is_surrogate c) (surrogates cs) s)))
 

@@ -1,6 +1,6 @@
 -- What holds of the literal that is printed of a text. A text is given by its bytes.
 use Rattle.std.specs.Prelude.{◌≡◌, ℕ, ◌<◌, ◌≤◌, Bool, true, false, List, [], ◌++◌, length, drop}
-use Rattle.std.specs.List.{AllByRecursion as All}
+use Rattle.std.specs.List.{AllByRecursion}
 use Rattle.ecma262.specs.declared.Quote.{Quote}
 use Rattle.ecma262.specs.Literals.{Literal}
 use Rattle.ecma262.specs.Lookahead.{opens}
@@ -36,7 +36,7 @@ NoScriptEnd q ascii bytes = (place : ℕ) → opens tag (drop place (quoted q as
 
 -- Where ASCII is asked for, each byte is below 128.
 abbrev pub AsciiIfAsked : Quote → Bool → List ℕ → Type 0
-AsciiIfAsked q ascii bytes = ascii ≡ true → All (λ b. b < 128) (quoted q ascii bytes)
+AsciiIfAsked q ascii bytes = ascii ≡ true → AllByRecursion (λ b. b < 128) (quoted q ascii bytes)
 
 -- Under minify every permitted quote gives a literal of at least as many bytes.
 abbrev pub ShortestUnderMinify : CodegenOptions → Bool → List ℕ → Type 0

@@ -1,6 +1,6 @@
 -- What holds of raw text that is printed. Raw text is given by its bytes.
 use Rattle.std.specs.Prelude.{◌≡◌, ℕ, ◌<◌, Bool, true, false, List, [], ◌++◌, drop}
-use Rattle.std.specs.List.{AllByRecursion as All}
+use Rattle.std.specs.List.{AllByRecursion}
 use Rattle.ecma262.specs.declared.Quote.{Quote}
 use Rattle.ecma262.specs.declared.Quote.TheVariants.{Backtick}
 use Rattle.ecma262.specs.Literals.{NotAhead, Characters}
@@ -17,7 +17,7 @@ Tagless printed = (place : ℕ) → opens tag (drop place printed) ≡ false
 
 -- where ASCII is asked for, each byte is below 128
 abbrev pub Ascii : Bool → List ℕ → Type 0
-Ascii ascii printed = ascii ≡ true → All (λ b. b < 128) printed
+Ascii ascii printed = ascii ≡ true → AllByRecursion (λ b. b < 128) printed
 
 -- A printed piece is template text again, of the TV of what was given, and of no other.
 pub record PieceValueKept (minify ascii : Bool) (bytes : List ℕ) : Type 0 where

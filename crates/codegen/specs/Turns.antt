@@ -1,7 +1,7 @@
 -- A turn of the printer: what it takes of the text, and what it prints.
 use Rattle.std.specs.Prelude.{◌≡◌, ℕ, ◌+◌, ◌<◌, ◌≤◌, Bool, true, false, cond, List, [], ◌∷◌, ◌++◌, length, take, drop, slice_index}
 use Rattle.std.proofs.Math.Utf8.{encodes}
-use Rattle.std.specs.List.{AllByRecursion as All}
+use Rattle.std.specs.List.{AllByRecursion}
 use Rattle.ecma262.specs.declared.Quote.{Quote}
 use Rattle.literal.specs.Escapes.{behind, printed}
 use Rattle.literal.specs.Quotes.{chosen}
@@ -16,7 +16,7 @@ Fine lone c = (c ≤ 0x10FFFF) × (is_surrogate c ≡ true → lone ≡ true)
 
 -- bytes that are characters of such a text
 abbrev pub Fit : Bool → List ℕ → Type 0
-Fit lone s = (encodes (code_points s) ≡ s) × All (Fine lone) (code_points s)
+Fit lone s = (encodes (code_points s) ≡ s) × AllByRecursion (Fine lone) (code_points s)
 
 abbrev pub takes : Turn → ℕ
 takes (Plain n) = n

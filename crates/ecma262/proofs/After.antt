@@ -42,7 +42,7 @@ module _ (rest : List ℕ) (fits : NotAhead Sought rest) where
   character (TemplateCharacter.dollar {rest = r} n) = TemplateCharacter.dollar (ahead (λ c. c ≡ 0x7B) (λ c e. inr (inr e)) r n)
   character (TemplateCharacter.escape e) = TemplateCharacter.escape (escape e)
   character (TemplateCharacter.continuation l) = TemplateCharacter.continuation (line l)
-  character (TemplateCharacter.line-end l) = TemplateCharacter.line-end (line l)
+  character (TemplateCharacter.line_end l) = TemplateCharacter.line_end (line l)
   character (TemplateCharacter.source h q b d l) = TemplateCharacter.source h q b d l
 
   in_string : {m : ℕ} {s r u : List ℕ} → StringCharacter m s r u → StringCharacter m (s ++ rest) (r ++ rest) u

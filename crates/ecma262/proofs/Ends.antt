@@ -1,6 +1,6 @@
 -- What follows a character is an end of the text, and shorter than it.
 use Rattle.std.proofs.Common.{ℕ, ◌<◌, List, ◌∷◌, length, arith}
-use Rattle.std.specs.List.{AllByRecursion as All}
+use Rattle.std.specs.List.{AllByRecursion}
 use Rattle.ecma262.specs.declared.Quote.{Quote}
 use Rattle.ecma262.specs.Literals.{HexDigits, EscapeSequence, LineTerminatorSequence, StringCharacter, TemplateCharacter, Character}
 
@@ -13,7 +13,7 @@ pub shorter : {s r : List ℕ} → End s r → length r < length s
 shorter one = omega arith
 shorter (more e) = omega (arith, shorter e)
 
-pub all_end : (P : ℕ → Type 0) {s r : List ℕ} → End s r → All P s → All P r
+pub all_end : (P : ℕ → Type 0) {s r : List ℕ} → End s r → AllByRecursion P s → AllByRecursion P r
 all_end P one h = h.1
 all_end P (more e) h = all_end P e h.1
 
@@ -51,7 +51,7 @@ in_template : {s r u : List ℕ} → TemplateCharacter s r u → End s r
 in_template (TemplateCharacter.dollar n) = one
 in_template (TemplateCharacter.escape e) = more (escape e)
 in_template (TemplateCharacter.continuation l) = more (line l)
-in_template (TemplateCharacter.line-end l) = line l
+in_template (TemplateCharacter.line_end l) = line l
 in_template (TemplateCharacter.source h a b d l) = one
 
 pub character-end : {q : Quote} {s r u : List ℕ} → Character q s r u → End s r

@@ -186,7 +186,7 @@ template_sound (c ∷ s) t =
     cond_both (eqb c 0x5C) _ _ K
     (λ b. rw (eqb-true c 0x5C b)
     (behind_sound (TemplateCharacter (0x5C ∷ s)) s t.1 (λ r v l. TemplateCharacter.continuation l) (λ r u e. TemplateCharacter.escape e)))
-    (λ b. cond_both (is_line_terminator c) _ _ K (λ l. TemplateCharacter.line-end (line_sound c s l))
+    (λ b. cond_both (is_line_terminator c) _ _ K (λ l. TemplateCharacter.line_end (line_sound c s l))
     (λ n. cond_both (eqb c 0x60 || eqb c 0x24 && opens (eqb 0x7B ∷ []) s) nothing (got s (utf16 c)) K (λ _. tt)
     (λ f. ⊎_elim
     (λ e. rw e (TemplateCharacter.dollar (lookahead (eqb 0x7B) (λ x. x ≡ 0x7B) (λ x i. grind (arith, nat_tests)) s (grind (arith, nat_tests)))))

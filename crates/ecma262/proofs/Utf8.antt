@@ -1,7 +1,7 @@
 -- The bytes of a code point in UTF-8, and what a test of ASCII characters sees of a text in its bytes.
 use Rattle.std.proofs.Common.{◌≡◌, ℕ, ◌+◌, ◌/◌, ◌%◌, ◌<◌, ◌≤◌, Bool, true, false, ◌&&◌, eqb, List, [], ◌∷◌, ◌++◌, get_or, sym, refl, ap, ⊎_elim, arith}
 use lib.Utf8.{encode, encodes}
-use Rattle.std.specs.List.{AllByRecursion as All}
+use Rattle.std.specs.List.{AllByRecursion}
 use Rattle.std.proofs.lemmas.Bool.{cases_lt, lt-ltb, le-ltb}
 use Rattle.std.proofs.lemmas.Bool.Decides.{nat_tests}
 use Rattle.ecma262.specs.Lookahead.{opens, digit}
@@ -27,7 +27,7 @@ module _ (c : ℕ) where
 -- a character and its bytes: itself, or bytes above 7F
 pub data Encoded (c : ℕ) : List ℕ → Type 0 where
   ascii : c < 0x80 → Encoded c (c ∷ [])
-  wide : {b : ℕ} {s : List ℕ} → 0x80 ≤ c → 0x80 ≤ b → All (λ x. 0x80 ≤ x) s → Encoded c (b ∷ s)
+  wide : {b : ℕ} {s : List ℕ} → 0x80 ≤ c → 0x80 ≤ b → AllByRecursion (λ x. 0x80 ≤ x) s → Encoded c (b ∷ s)
 
 pub encoded : (c : ℕ) → Encoded c (encode c)
 encoded c =
@@ -46,7 +46,7 @@ same_here : (p : ℕ → Bool) (ps : List (ℕ → Bool)) → Narrow p → {c : 
 same_here p ps n {c} s t (ascii l) i = ap (λ b. p c && b) i
 same_here p ps n {c} s t (wide {b = b} h k _) i = rw (n b k, n c h)
 
-pub same_front : (ps : List (ℕ → Bool)) → All Narrow ps → (s : List ℕ) → opens ps (encodes s) ≡ opens ps s
+pub same_front : (ps : List (ℕ → Bool)) → AllByRecursion Narrow ps → (s : List ℕ) → opens ps (encodes s) ≡ opens ps s
 same_front [] n s = refl
 same_front (p ∷ ps) n [] = refl
 same_front (p ∷ ps) n (c ∷ s) = same_here p ps n.0 s (encodes s) (encoded c) (same_front ps n.1 s)

@@ -97,18 +97,18 @@ in_string m k StringCharacter.ps = rw (ne_eqb 0x2029 m (omega arith))
 in_string m k (StringCharacter.escape e) = escapes e
 in_string m k (StringCharacter.continuation l) = continued l
 
-line-end : {s rest : List ℕ} {v : ℕ} → LineTerminatorSequence s rest v → template_character s ≡ got rest (v ∷ [])
-line-end LineTerminatorSequence.lf = refl
-line-end (LineTerminatorSequence.cr {rest = rest} n) = rw (no_feed rest n)
-line-end LineTerminatorSequence.ls = refl
-line-end LineTerminatorSequence.ps = refl
-line-end LineTerminatorSequence.crlf = refl
+line_end : {s rest : List ℕ} {v : ℕ} → LineTerminatorSequence s rest v → template_character s ≡ got rest (v ∷ [])
+line_end LineTerminatorSequence.lf = refl
+line_end (LineTerminatorSequence.cr {rest = rest} n) = rw (no_feed rest n)
+line_end LineTerminatorSequence.ls = refl
+line_end LineTerminatorSequence.ps = refl
+line_end LineTerminatorSequence.crlf = refl
 
 in_template : {s rest u : List ℕ} → TemplateCharacter s rest u → template_character s ≡ got rest u
 in_template (TemplateCharacter.dollar {rest = rest} n) = rw (not_ahead (eqb 0x7B) (λ c. c ≡ 0x7B) (λ c no. grind (arith, nat_tests)) rest n)
 in_template (TemplateCharacter.escape e) = escapes e
 in_template (TemplateCharacter.continuation l) = continued l
-in_template (TemplateCharacter.line-end l) = line-end l
+in_template (TemplateCharacter.line_end l) = line_end l
 in_template (TemplateCharacter.source {c = c} h a b d l) = rw (ne_eqb c 0x5C b, not_line c l, ne_eqb c 0x60 a, ne_eqb c 0x24 d)
 
 pub reads : {q : Quote} {s rest u : List ℕ} → Character q s rest u → character q s ≡ got rest u

@@ -87,7 +87,7 @@ pub data TemplateCharacter : List ℕ → List ℕ → List ℕ → Type 0 where
   dollar : {rest : List ℕ} → NotAhead (λ c. c ≡ 0x7B) rest → TemplateCharacter (0x24 ∷ rest) rest (0x24 ∷ [])
   escape : {s rest u : List ℕ} → EscapeSequence s rest u → TemplateCharacter (0x5C ∷ s) rest u
   continuation : {s rest : List ℕ} {v : ℕ} → LineTerminatorSequence s rest v → TemplateCharacter (0x5C ∷ s) rest []
-  line-end : {s rest : List ℕ} {v : ℕ} → LineTerminatorSequence s rest v → TemplateCharacter s rest (v ∷ [])
+  line_end : {s rest : List ℕ} {v : ℕ} → LineTerminatorSequence s rest v → TemplateCharacter s rest (v ∷ [])
   source : {c : ℕ} {rest : List ℕ} → c ≤ 0x10FFFF → c ≢ 0x60 → c ≢ 0x5C → c ≢ 0x24 → (LineTerminator c → ⊥) →
       TemplateCharacter (c ∷ rest) rest (utf16 c)
 

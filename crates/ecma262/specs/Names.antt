@@ -1,7 +1,7 @@
 -- IdentifierName by ECMA-262 (12.7 Names and Keywords), as relations: `X s rest v` says that s begins with an X of the code points v, and
 -- that rest follows it. Which code points above 7F are ID_Start or ID_Continue is left to Unicode: here all but the surrogates are both.
 use Rattle.std.specs.Prelude.{◌≡◌, ℕ, ◌≤◌, ◌⊎◌, List, [], ◌∷◌}
-use Rattle.std.specs.List.{AllByRecursion as All}
+use Rattle.std.specs.List.{AllByRecursion}
 use Rattle.ecma262.specs.Units.{utf16}
 use Rattle.ecma262.specs.Literals.{NotAhead, DecimalDigit, EscapeSequence}
 
@@ -41,4 +41,4 @@ pub data IdentifierName : List ℕ → List ℕ → List ℕ → Type 0 where
 -- the code points of a name
 abbrev pub NameText : List ℕ → Type 0
 NameText [] = ⊥
-NameText (c ∷ cs) = NameStart c × All NamePart cs
+NameText (c ∷ cs) = NameStart c × AllByRecursion NamePart cs

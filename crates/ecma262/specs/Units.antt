@@ -1,12 +1,12 @@
 -- Source text, the quotes, and the UTF-16 code units of code points (ECMA-262, 11.1.1 UTF16EncodeCodePoint).
 use Rattle.std.specs.Prelude.{ℕ, ◌+◌, ◌-◌, ◌/◌, ◌%◌, ◌≤◌, cond, List, [], ◌∷◌, ◌++◌, nat_lt}
-use Rattle.std.specs.List.{AllByRecursion as All}
+use Rattle.std.specs.List.{AllByRecursion}
 use Rattle.ecma262.specs.declared.Quote.{Quote}
 use Rattle.ecma262.specs.declared.Quote.TheVariants.{Single, Double, Backtick}
 
 -- code points, lone surrogates among them
 abbrev pub Text : List ℕ → Type 0
-Text = All (λ c. c ≤ 0x10FFFF)
+Text = AllByRecursion (λ c. c ≤ 0x10FFFF)
 
 -- the code point of a quote
 abbrev pub mark : Quote → ℕ

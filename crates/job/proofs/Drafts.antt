@@ -8,7 +8,7 @@ use Rattle.job.specs.declared.words.Form.{Form}
 use Rattle.job.specs.declared.faults.Expected.{Expected}
 use Rattle.job.specs.declared.faults.Expected.TheVariants.{OptionsFirst, OptionsOnce, LimitFirst, LimitOnce}
 use Rattle.job.specs.declared.reading.Draft.{Draft}
-use Rattle.job.specs.Jobs.{Sketch, sketch, drafted, setting, with_options, with_limit, with_call, options-line, limit-line, call_line}
+use Rattle.job.specs.Jobs.{Sketch, sketch, drafted, setting, with_options, with_limit, with_call, options_line, limit_line, call_line}
 use Rattle.job.specs.Calls.{CallAt, call_at, flag_of, CallRead}
 use Rattle.job.specs.Settings.{options_of, limit_of}
 
@@ -34,22 +34,22 @@ in_time : (d : Sketch) (already : Bool) (first once : Expected) (next : Result S
 in_time d already first once next e f = rw (sym e, sym f)
 
 module _ (d : Draft) (argument : List ℕ) where
-  pub options_late : false ≡ eqb (vec_len d.calls) 0 → options-line (drafted d) argument ≡ Err OptionsFirst
+  pub options_late : false ≡ eqb (vec_len d.calls) 0 → options_line (drafted d) argument ≡ Err OptionsFirst
   options_late e = late (drafted d) (is_some d.options) OptionsFirst OptionsOnce (with_options (drafted d) (options_of argument)) (e ∙ none_yet d.calls)
 
-  pub options_twice : true ≡ eqb (vec_len d.calls) 0 → true ≡ is_some d.options → options-line (drafted d) argument ≡ Err OptionsOnce
+  pub options_twice : true ≡ eqb (vec_len d.calls) 0 → true ≡ is_some d.options → options_line (drafted d) argument ≡ Err OptionsOnce
   options_twice e f = twice (drafted d) (is_some d.options) OptionsFirst OptionsOnce (with_options (drafted d) (options_of argument)) (e ∙ none_yet d.calls) f
 
-  pub options_in_time : true ≡ eqb (vec_len d.calls) 0 → false ≡ is_some d.options → options-line (drafted d) argument ≡ with_options (drafted d) (options_of argument)
+  pub options_in_time : true ≡ eqb (vec_len d.calls) 0 → false ≡ is_some d.options → options_line (drafted d) argument ≡ with_options (drafted d) (options_of argument)
   options_in_time e f = in_time (drafted d) (is_some d.options) OptionsFirst OptionsOnce (with_options (drafted d) (options_of argument)) (e ∙ none_yet d.calls) f
 
-  pub limit_late : false ≡ eqb (vec_len d.calls) 0 → limit-line (drafted d) argument ≡ Err LimitFirst
+  pub limit_late : false ≡ eqb (vec_len d.calls) 0 → limit_line (drafted d) argument ≡ Err LimitFirst
   limit_late e = late (drafted d) (is_some d.limit) LimitFirst LimitOnce (with_limit (drafted d) (limit_of argument)) (e ∙ none_yet d.calls)
 
-  pub limit_twice : true ≡ eqb (vec_len d.calls) 0 → true ≡ is_some d.limit → limit-line (drafted d) argument ≡ Err LimitOnce
+  pub limit_twice : true ≡ eqb (vec_len d.calls) 0 → true ≡ is_some d.limit → limit_line (drafted d) argument ≡ Err LimitOnce
   limit_twice e f = twice (drafted d) (is_some d.limit) LimitFirst LimitOnce (with_limit (drafted d) (limit_of argument)) (e ∙ none_yet d.calls) f
 
-  pub limit_in_time : true ≡ eqb (vec_len d.calls) 0 → false ≡ is_some d.limit → limit-line (drafted d) argument ≡ with_limit (drafted d) (limit_of argument)
+  pub limit_in_time : true ≡ eqb (vec_len d.calls) 0 → false ≡ is_some d.limit → limit_line (drafted d) argument ≡ with_limit (drafted d) (limit_of argument)
   limit_in_time e f = in_time (drafted d) (is_some d.limit) LimitFirst LimitOnce (with_limit (drafted d) (limit_of argument)) (e ∙ none_yet d.calls) f
 
 -- a call goes behind the calls before it

@@ -8,7 +8,7 @@ use Rattle.job.specs.declared.faults.Expected.{Expected}
 use Rattle.job.specs.declared.faults.Expected.TheVariants.{Keyword, OptionsOnce, OptionsFirst, LimitOnce, LimitFirst, HexPairs}
 use Rattle.job.specs.declared.faults.JobFault.{JobFault}
 use Rattle.job.specs.declared.faults.JobError.{JobError}
-use Rattle.job.specs.declared.faults.JobError.TheVariants as job-error
+use Rattle.job.specs.declared.faults.JobError.TheVariants as job_error
 use Rattle.job.specs.declared.faults.LineError.{LineError}
 use Rattle.job.specs.declared.faults.LineError.TheVariants.{Awaited, Memory}
 use Rattle.job.specs.declared.reading.Draft.{Draft}
@@ -55,19 +55,19 @@ abbrev pub with_call : Sketch → ℕ → CallKind → Form → Option (List ℕ
 with_call d n kind form None = Err HexPairs
 with_call d n kind form (Some bytes) = Ok (sketch d.options d.limit (d.calls ++ record { line = n; kind = kind; bytes = bytes; lone = flag_of form bytes } ∷ []))
 
-abbrev pub options-line : Sketch → List ℕ → Result Sketch Expected
-options-line d argument = setting d (is_some d.options) OptionsFirst OptionsOnce (with_options d (options_of argument))
+abbrev pub options_line : Sketch → List ℕ → Result Sketch Expected
+options_line d argument = setting d (is_some d.options) OptionsFirst OptionsOnce (with_options d (options_of argument))
 
-abbrev pub limit-line : Sketch → List ℕ → Result Sketch Expected
-limit-line d argument = setting d (is_some d.limit) LimitFirst LimitOnce (with_limit d (limit_of argument))
+abbrev pub limit_line : Sketch → List ℕ → Result Sketch Expected
+limit_line d argument = setting d (is_some d.limit) LimitFirst LimitOnce (with_limit d (limit_of argument))
 
 abbrev pub call_line : Sketch → ℕ → CallKind → Form → List ℕ → Result Sketch Expected
 call_line d n kind form argument = with_call d n kind form (text_of form argument)
 
 abbrev pub keyed : Sketch → ℕ → Option AnyKeyword → List ℕ → Result Sketch Expected
 keyed d n None argument = Err Keyword
-keyed d n (Some Options) argument = options-line d argument
-keyed d n (Some Limit) argument = limit-line d argument
+keyed d n (Some Options) argument = options_line d argument
+keyed d n (Some Limit) argument = limit_line d argument
 keyed d n (Some (Set kind form)) argument = call_line d n kind form argument
 
 -- what the line of number `n` makes of the lines before it
@@ -78,8 +78,8 @@ abbrev pub fault : ℕ → Expected → JobFault
 fault n e = record { line = n; expected = e }
 
 abbrev pub faulted : LineError → ℕ → JobError
-faulted (Awaited e) n = job-error.Fault (fault n e)
-faulted Memory n = job-error.Memory
+faulted (Awaited e) n = job_error.Fault (fault n e)
+faulted Memory n = job_error.Memory
 
 -- the lines from number `n` on, behind those that came to `d`
 abbrev pub job_from : ℕ → Sketch → List (List ℕ) → Result Sketch JobFault
@@ -118,5 +118,5 @@ LineTaken call x (Err Memory) after = true ≡ call
 -- what reading a job answers; memory is wanted only where some line is a call's
 abbrev pub JobRead : List ℕ → Result Job JobError → Type 0
 JobRead text (Ok job) = job_of text ≡ Ok (whole job)
-JobRead text (Err (job-error.Fault f)) = job_of text ≡ Err f
-JobRead text (Err job-error.Memory) = true ≡ call_among (lines text)
+JobRead text (Err (job_error.Fault f)) = job_of text ≡ Err f
+JobRead text (Err job_error.Memory) = true ≡ call_among (lines text)

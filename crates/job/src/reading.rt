@@ -1,7 +1,7 @@
 //! Reads a whole job.
 ghost use Rattle.std.specs.Prelude.{◌≡◌, true};
 ghost use Rattle.job.specs.Calls.{TextRead, CallRead, flag_of};
-ghost use Rattle.job.specs.Jobs.{SettingTaken, LineTaken, JobRead, is_call, drafted, line_on, options-line, limit-line, call_line};
+ghost use Rattle.job.specs.Jobs.{SettingTaken, LineTaken, JobRead, is_call, drafted, line_on, options_line, limit_line, call_line};
 
 use crate::bytes::{LINE_FEED, Stop, cut, is_ignored};
 use crate::calls::{Call, CallKind, Entry, Job, JobOptions};
@@ -69,7 +69,7 @@ impl Draft {
     }
 
     fn take_options(&mut self, argument: &[u8]) -> Result<(), Expected>
-        ensures once_before_the_first_call { SettingTaken (options-line (drafted self.old) argument.now) result (drafted self.new) }
+        ensures once_before_the_first_call { SettingTaken (options_line (drafted self.old) argument.now) result (drafted self.new) }
     {
         if !self.calls.is_empty() {
             return Err(Expected::OptionsFirst);
@@ -83,7 +83,7 @@ impl Draft {
     }
 
     fn take_limit(&mut self, argument: &[u8]) -> Result<(), Expected>
-        ensures once_before_the_first_call { SettingTaken (limit-line (drafted self.old) argument.now) result (drafted self.new) }
+        ensures once_before_the_first_call { SettingTaken (limit_line (drafted self.old) argument.now) result (drafted self.new) }
     {
         if !self.calls.is_empty() {
             return Err(Expected::LimitFirst);

@@ -1,7 +1,7 @@
 -- From code points to bytes: what a test of ASCII characters sees in a text, it sees in the text's bytes.
 use Rattle.std.proofs.Common.{◌≡◌, ℕ, suc, ◌+◌, ◌<◌, ◌≤◌, Bool, true, false, ◌&&◌, eqb, List, [], ◌∷◌, ◌++◌, refl, ap, ◌∙◌, arith}
 use lib.Utf8.{encode, encodes}
-use Rattle.std.specs.List.{AllByRecursion as All}
+use Rattle.std.specs.List.{AllByRecursion}
 use Rattle.std.proofs.lemmas.Bool.{and_left, ne_eqb, both_ways}
 use Rattle.std.proofs.lemmas.Bool.Decides.{nat_tests}
 use Rattle.ecma262.specs.Lookahead.{opens}
@@ -14,7 +14,7 @@ use Rattle.literal.proofs.Reading.{read_back}
 
 -- ASCII in code points is ASCII in bytes
 
-pub ascii_bytes : (s : List ℕ) → All (λ c. c < 128) s → All (λ b. b < 128) (encodes s)
+pub ascii_bytes : (s : List ℕ) → AllByRecursion (λ c. c < 128) s → AllByRecursion (λ b. b < 128) (encodes s)
 ascii_bytes [] h = tt
 ascii_bytes (c ∷ s) h = rw (encode_1 c h.0) (h.0, ascii_bytes s h.1)
 
@@ -26,7 +26,7 @@ plain-bytes q text = ascii_bytes (literal q true text) (all_ascii q text)
 letter_narrow : (w : ℕ) → w < 0x80 → Narrow (same_letter w)
 letter_narrow w l x h = grind (arith, nat_tests)
 
-pub script_narrow : All Narrow script
+pub script_narrow : AllByRecursion Narrow script
 script_narrow = (
   letter_narrow 0x73 (omega arith),
   (
@@ -35,12 +35,12 @@ script_narrow = (
   ),
 )
 
-pub tag_narrow : All Narrow tag
+pub tag_narrow : AllByRecursion Narrow tag
 tag_narrow = (eqb_narrow 0x3C (omega arith), (eqb_narrow 0x2F (omega arith), script_narrow))
 
 -- no tag in code points, none in bytes
 
-absent_wide : (s t : List ℕ) → All (λ x. 0x80 ≤ x) s → Absent t → Absent (s ++ t)
+absent_wide : (s t : List ℕ) → AllByRecursion (λ x. 0x80 ≤ x) s → Absent t → Absent (s ++ t)
 absent_wide [] t h later = later
 absent_wide (x ∷ s) t h later = absent_more x (s ++ t) (and_left (eqb 0x3C x) _ (ne_eqb 0x3C x (omega arith))) (absent_wide s t h.1 later)
 
@@ -57,7 +57,7 @@ in_bytes q only text place = absent_bytes (literal q only text) (no_tag q only t
 
 -- all of it
 
-plain_if_asked : (q : Quote) (only : Bool) (text : List ℕ) → only ≡ true → All (λ b. b < 128) (encodes (literal q only text))
+plain_if_asked : (q : Quote) (only : Bool) (text : List ℕ) → only ≡ true → AllByRecursion (λ b. b < 128) (encodes (literal q only text))
 plain_if_asked q true text e = plain-bytes q text
 plain_if_asked q false text e = absurd (both_ways false refl e)
 

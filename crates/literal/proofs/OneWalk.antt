@@ -1,6 +1,6 @@
 -- The steps of raw text, one after the other, print what one walk prints: none makes or breaks what another looks for.
 use Rattle.std.proofs.Common.{◌≡◌, ℕ, Bool, true, false, cond, not, ◌&&◌, ◌||◌, eqb, leb, List, [], ◌∷◌, ◌++◌, sym, refl, ap, ◌∙◌, arith}
-use Rattle.std.specs.List.{AllByRecursion as All}
+use Rattle.std.specs.List.{AllByRecursion}
 use Rattle.std.proofs.lemmas.Bool.{cond_both, and_left, and_parts, false≢true, ne_eqb, eqb-true, leb-true}
 use Rattle.std.proofs.lemmas.Bool.Decides.{nat_tests}
 use Rattle.ecma262.specs.Lookahead.{opens}
@@ -95,7 +95,7 @@ no_slash a b [] e = refl
 no_slash a b (c ∷ cs) e = let n : eqb c 0x2F ≡ false = grind (arith, nat_tests) in rw n
 
 -- calm characters stay, and what follows them is as if behind another character that is no <
-calm_on : (a b : ℕ) (x t : List ℕ) → eqb a 0x3C ≡ false → eqb b 0x3C ≡ false → All Calm x → break_tags a (x ++ t) ≡ x ++ break_tags b t
+calm_on : (a b : ℕ) (x t : List ℕ) → eqb a 0x3C ≡ false → eqb b 0x3C ≡ false → AllByRecursion Calm x → break_tags a (x ++ t) ≡ x ++ break_tags b t
 calm_on a b [] t m n h = same-before a b t (m ∙ sym n)
 calm_on a b (y ∷ x) t m n h =
     rw (ne_eqb y 0x2F h.0.2) (ap (λ z. y ∷ z) (calm_on y b x t (ne_eqb y 0x3C h.0.1) n h.1))
@@ -104,7 +104,7 @@ calm_on a b (y ∷ x) t m n h =
 abbrev pub Plain : (ℕ → Bool) → Type 0
 Plain p = (p 0x5C ≡ false) × (p 0x24 ≡ false) × Narrow p
 
-script-plain : All Plain script
+script-plain : AllByRecursion Plain script
 script-plain = let (a, (b, (c, (d, (e, (f, _)))))) = script_narrow in ((refl, refl, a), ((refl, refl, b), ((refl, refl, c), ((refl, refl, d), ((refl, refl, e), ((refl, refl, f), tt))))))
 
 untagged : (t : Bool) (x y : List ℕ) → cond (t && false) x y ≡ y
@@ -117,7 +117,7 @@ tagged false x y = refl
 
 module _ (dollars ascii : Bool) (mode : NonAsciiEscape) where
   -- what plain tests see of the text, they see of what the first two steps print
-  pub same_ahead : (ps : List (ℕ → Bool)) → All Plain ps → (odd : Bool) (before : ℕ) (cs : List ℕ) →
+  pub same_ahead : (ps : List (ℕ → Bool)) → AllByRecursion Plain ps → (odd : Bool) (before : ℕ) (cs : List ℕ) →
       opens ps (raw_walk dollars ascii mode false odd before cs) ≡ opens ps cs
   same_ahead [] h odd before cs = refl
   same_ahead (p ∷ ps) h odd before [] = refl

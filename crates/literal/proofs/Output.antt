@@ -1,7 +1,7 @@
 -- The code points of a literal: ASCII if that is asked for, no surrogate, and no </script.
 use Rattle.std.proofs.Common.{◌≡◌, ℕ, zero, suc, ◌%◌, ◌<◌, ◌≤◌, Bool, true, false, eqb, ltb, ◌≢◌, List, [], ◌∷◌, ◌++◌, drop, refl, ⊎_elim, append_assoc, arith}
 use lib.Utf8.{scalar, scalars}
-use Rattle.std.specs.List.{AllByRecursion as All}
+use Rattle.std.specs.List.{AllByRecursion}
 use Rattle.std.proofs.lemmas.Bool.{and_from, and_left, and_right, cases_eq, cond_both, ne_eqb}
 use Rattle.std.proofs.ByRecursion.{All-append, All-weaker}
 use Rattle.std.proofs.lemmas.Bool.Decides.{nat_tests}
@@ -33,13 +33,13 @@ digit-quiet (capital g l e) = omega arith
 pub hex-quiet : (letters : HexCase) (n : ℕ) → Quiet (hex_digit letters (n % 0x10))
 hex-quiet letters n = digit-quiet (digit letters (n % 0x10) (omega arith))
 
-behind-quiet : (c : ℕ) (e : EscapeSequence) → quiet e ≡ true → All Quiet (behind c e)
+behind-quiet : (c : ℕ) (e : EscapeSequence) → quiet e ≡ true → AllByRecursion Quiet (behind c e)
 behind-quiet c Null s = omega arith
 behind-quiet c (Character e) s = grind (arith, nat_tests)
 behind-quiet c Hex s = omega (arith, hex-quiet)
 behind-quiet c (Unicode letters) s = omega (arith, hex-quiet)
 behind-quiet c CodePoint s =
-    cond_both (ltb c 0x100000) [] (0x31 ∷ []) (λ ds. All Quiet (0x75 ∷ 0x7B ∷ (ds ++ five_digits c))) (λ _. omega (arith, hex-quiet)) (λ _. omega (arith, hex-quiet))
+    cond_both (ltb c 0x100000) [] (0x31 ∷ []) (λ ds. AllByRecursion Quiet (0x75 ∷ 0x7B ∷ (ds ++ five_digits c))) (λ _. omega (arith, hex-quiet)) (λ _. omega (arith, hex-quiet))
 
 quiet-rules : (q : Quote) (ascii : Bool) (before c : ℕ) (cs : List ℕ) → pass quiet (rules q ascii before c cs) ≡ true
 unfolding other_rules
@@ -52,17 +52,17 @@ quiet_rows q ascii before c cs = rows_pass quiet (rules q ascii before c cs) (qu
 
 -- ASCII alone
 
-body_ascii : (q : Quote) (before : ℕ) (text : List ℕ) → All (λ c. c < 128) (printed q true before text)
+body_ascii : (q : Quote) (before : ℕ) (text : List ℕ) → AllByRecursion (λ c. c < 128) (printed q true before text)
 unfolding other_rules
 body_ascii q before [] = tt
 body_ascii q before (c ∷ cs) =
     All-append (λ c. c < 128) (first c (rules q true before c cs)) (printed q true c cs)
-    (by_rules (All (λ c. c < 128)) (λ e. quiet e ≡ true) c (rules q true before c cs) (quiet_rows q true before c cs)
+    (by_rules (AllByRecursion (λ c. c < 128)) (λ e. quiet e ≡ true) c (rules q true before c cs) (quiet_rows q true before c cs)
     (λ e h. (omega arith, All-weaker Quiet (λ c. c < 128) (λ _ k. k.0) (behind c e) (behind-quiet c e h)))
     (λ none. (grind (arith, nat_tests), tt)))
     (body_ascii q c cs)
 
-pub all_ascii : (q : Quote) (text : List ℕ) → All (λ c. c < 128) (literal q true text)
+pub all_ascii : (q : Quote) (text : List ℕ) → AllByRecursion (λ c. c < 128) (literal q true text)
 all_ascii q text =
     let m : mark q < 128 = by_quote (λ m. m < 128) (omega arith) (omega arith) (omega arith) q in
     (m, All-append (λ c. c < 128) (printed q true 0 text) (mark q ∷ []) (body_ascii q 0 text) (m, tt))
@@ -75,16 +75,16 @@ Scalar c = (c ≤ 0x10FFFF) × ((0xD800 ≤ c) × (c ≤ 0xDFFF) → ⊥)
 is_scalar : (c : ℕ) → Scalar c → scalar c ≡ true
 is_scalar c h = grind (arith, nat_tests)
 
-pub are_scalars : (s : List ℕ) → All Scalar s → scalars s ≡ true
+pub are_scalars : (s : List ℕ) → AllByRecursion Scalar s → scalars s ≡ true
 are_scalars [] h = refl
 are_scalars (c ∷ s) h = and_from (scalar c) (scalars s) (is_scalar c h.0) (are_scalars s h.1)
 
-body_scalar : (q : Quote) (ascii : Bool) (before : ℕ) (text : List ℕ) → Text text → All Scalar (printed q ascii before text)
+body_scalar : (q : Quote) (ascii : Bool) (before : ℕ) (text : List ℕ) → Text text → AllByRecursion Scalar (printed q ascii before text)
 unfolding other_rules
 body_scalar q ascii before [] t = tt
 body_scalar q ascii before (c ∷ cs) t =
     All-append Scalar (first c (rules q ascii before c cs)) (printed q ascii c cs)
-    (by_rules (All Scalar) (λ e. quiet e ≡ true) c (rules q ascii before c cs) (quiet_rows q ascii before c cs)
+    (by_rules (AllByRecursion Scalar) (λ e. quiet e ≡ true) c (rules q ascii before c cs) (quiet_rows q ascii before c cs)
     (λ e h. (omega arith, All-weaker Quiet Scalar (λ _ k. omega arith) (behind c e) (behind-quiet c e h)))
     (λ none. ((t.0, grind (arith, nat_tests)), tt)))
     (body_scalar q ascii c cs t.1)
@@ -103,7 +103,7 @@ pub absent_more : (x : ℕ) (s : List ℕ) → opens tag (x ∷ s) ≡ false →
 absent_more x s here later zero = here
 absent_more x s here later (suc place) = later place
 
-pub absent_quiet : (s t : List ℕ) → All Quiet s → Absent t → Absent (s ++ t)
+pub absent_quiet : (s t : List ℕ) → AllByRecursion Quiet s → Absent t → Absent (s ++ t)
 absent_quiet [] t h later = later
 absent_quiet (x ∷ s) t h later = absent_more x (s ++ t) (and_left (eqb 0x3C x) _ (ne_eqb 0x3C x (omega arith))) (absent_quiet s t h.1 later)
 

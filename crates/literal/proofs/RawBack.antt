@@ -73,7 +73,7 @@ template (TemplateCharacter.escape (EscapeSequence.single k)) (slash b) = elim k
 template (TemplateCharacter.escape (EscapeSequence.non_escape k)) (slash b) = (_, _, slash_itself, b)
 template (TemplateCharacter.continuation k) (same b) = let (x, c, l, d) = line k b in (x, c, TemplateCharacter.continuation l, d)
 template (TemplateCharacter.continuation k) (slash b) = elim k [ ]
-template (TemplateCharacter.line-end k) b = let (x, c, l, d) = line k b in (x, c, TemplateCharacter.line-end l, d)
+template (TemplateCharacter.line_end k) b = let (x, c, l, d) = line k b in (x, c, TemplateCharacter.line_end l, d)
 template (TemplateCharacter.source h q n d l) (same b) = (_, _, TemplateCharacter.source h q n d l, b)
 template (TemplateCharacter.source h q n d l) (slash b) = absurd (n refl)
 

@@ -1,7 +1,7 @@
 -- The walk over raw text, for code that reads and writes bytes of UTF-8: what it prints of one character, and how it goes on.
 use Rattle.std.proofs.Common.{◌≡◌, ℕ, ◌+◌, ◌-◌, ◌/◌, ◌%◌, ◌<◌, ◌≤◌, Bool, true, false, cond, not, ◌&&◌, ◌||◌, eqb, leb, ◌≢◌, List, [], ◌∷◌, ◌++◌, sym, refl, ap, ◌∙◌, subst, ⊎_elim, arith}
 use lib.Utf8.{encode, encodes}
-use Rattle.std.specs.List.{AllByRecursion as All}
+use Rattle.std.specs.List.{AllByRecursion}
 use Rattle.std.proofs.lemmas.Bool.{cond_both, and_right, cases_lt, le-leb, lt-leb, le-ltb, lt-ltb, ne_eqb}
 use Rattle.std.proofs.lemmas.Str.{encodes-append}
 use Rattle.ecma262.specs.Lookahead.{opens}
@@ -43,18 +43,18 @@ escape-pair c h = rw (le-ltb c 0x10000 h)
 
 -- ASCII is its own bytes
 
-ascii_same : (s : List ℕ) → All (λ c. c < 128) s → encodes s ≡ s
+ascii_same : (s : List ℕ) → AllByRecursion (λ c. c < 128) s → encodes s ≡ s
 ascii_same [] h = refl
 ascii_same (c ∷ s) h = rw (encode_1 c h.0) (ap (λ t. c ∷ t) (ascii_same s h.1))
 
-calm_ascii : (s : List ℕ) → All Calm s → All (λ c. c < 128) s
+calm_ascii : (s : List ℕ) → AllByRecursion Calm s → AllByRecursion (λ c. c < 128) s
 calm_ascii [] h = tt
 calm_ascii (c ∷ s) h = (h.0.0, calm_ascii s h.1)
 
 pub wide-bytes : (mode : NonAsciiEscape) (odd : Bool) (c : ℕ) → encodes (wide_printed mode odd c) ≡ wide_printed mode odd c
 wide-bytes mode odd c =
     let (x, e, calm) = wide_shape mode odd c in
-    ascii_same (wide_printed mode odd c) (subst (All (λ c. c < 128)) (sym e) (omega arith, calm_ascii x calm))
+    ascii_same (wide_printed mode odd c) (subst (AllByRecursion (λ c. c < 128)) (sym e) (omega arith, calm_ascii x calm))
 
 -- what stands ahead in the text stands ahead in its bytes
 
@@ -102,11 +102,11 @@ module _ (dollars ascii' : Bool) (mode : NonAsciiEscape) (tags : Bool) where
       (eqb c 0x2F && eqb before 0x3C && opens script cs && tags) ≡ false → raw_turn dollars ascii' mode tags odd before c cs ≡ c ∷ []
   turn_itself odd before c cs h g t = rw (g, lt-leb 0x80 c h, t)
 
-  turn_ascii : (odd : Bool) (before c : ℕ) (cs : List ℕ) → c < 0x80 → All (λ c. c < 128) (raw_turn dollars ascii' mode tags odd before c cs)
+  turn_ascii : (odd : Bool) (before c : ℕ) (cs : List ℕ) → c < 0x80 → AllByRecursion (λ c. c < 128) (raw_turn dollars ascii' mode tags odd before c cs)
   turn_ascii odd before c cs h =
-      cond_both (odd_behind odd c && backslash_goes dollars ascii' mode cs) [] _ (All (λ c. c < 128)) (λ _. tt)
+      cond_both (odd_behind odd c && backslash_goes dollars ascii' mode cs) [] _ (AllByRecursion (λ c. c < 128)) (λ _. tt)
       (λ _. rw (lt-leb 0x80 c h)
-      (cond_both (eqb c 0x2F && eqb before 0x3C && opens script cs && tags) (0x5C ∷ 0x2F ∷ []) (c ∷ []) (All (λ c. c < 128)) (λ _. (omega arith, (omega arith, tt))) (λ _. (h, tt))))
+      (cond_both (eqb c 0x2F && eqb before 0x3C && opens script cs && tags) (0x5C ∷ 0x2F ∷ []) (c ∷ []) (AllByRecursion (λ c. c < 128)) (λ _. (omega arith, (omega arith, tt))) (λ _. (h, tt))))
 
   -- the bytes of the walk at an ASCII character, by the bytes ahead
   pub step_ascii : (odd : Bool) (before c : ℕ) (cs : List ℕ) → c < 0x80 →
@@ -137,7 +137,7 @@ module _ (dollars : Bool) (mode : NonAsciiEscape) (tags : Bool) where
   wide_turn : (odd : Bool) (before c : ℕ) (cs : List ℕ) → 0x80 ≤ c → bytewise odd before (c ∷ cs) ≡ c ∷ bytewise false c cs
   wide_turn odd before c cs h = rw (wide_even odd c h, and_right (leb 0x80 c) false refl, ne_eqb c 0x2F (omega arith))
 
-  wide_run : (x y : ℕ) (s t : List ℕ) → eqb x 0x3C ≡ false → eqb y 0x3C ≡ false → All (λ b. 0x80 ≤ b) s → bytewise false x (s ++ t) ≡ s ++ bytewise false y t
+  wide_run : (x y : ℕ) (s t : List ℕ) → eqb x 0x3C ≡ false → eqb y 0x3C ≡ false → AllByRecursion (λ b. 0x80 ≤ b) s → bytewise false x (s ++ t) ≡ s ++ bytewise false y t
   wide_run x y [] t m n h = walk_before dollars false mode tags false x y t (m ∙ sym n)
   wide_run x y (b ∷ s) t m n h =
       wide_turn false x b (s ++ t) h.0 ∙ ap (λ z. b ∷ z) (wide_run b y s t (ne_eqb b 0x3C (omega arith)) n h.1)

@@ -184,7 +184,7 @@ in_template = record {
   escape = TemplateCharacter.escape;
   continuation = TemplateCharacter.continuation;
   bare = TemplateCharacter.dollar;
-  separator = λ c r e. ⊎_elim (λ i. rw i (TemplateCharacter.line-end ls)) (λ n. let i : c ≡ 0x2029 = grind (arith, nat_tests) in rw i (TemplateCharacter.line-end ps)) (cases_eq c 0x2028);
+  separator = λ c r e. ⊎_elim (λ i. rw i (TemplateCharacter.line_end ls)) (λ n. let i : c ≡ 0x2029 = grind (arith, nat_tests) in rw i (TemplateCharacter.line_end ps)) (cases_eq c 0x2028);
 }
 
 module _ (dollars ascii tags : Bool) where
@@ -193,17 +193,17 @@ module _ (dollars ascii tags : Bool) where
       (b : ℕ) × TemplateCharacter (raw_walk dollars ascii TemplateRaw tags false before s) (raw_walk dollars ascii TemplateRaw tags false b rest) u
 
   line_kept : {s rest : List ℕ} {v : ℕ} (before : ℕ) → LineTerminatorSequence s rest v → TemplateKeeps before s rest (v ∷ [])
-  line_kept before lf = (0x0A, TemplateCharacter.line-end lf)
-  line_kept before (cr {rest = rest} n) = (0x0D, TemplateCharacter.line-end (cr (no_feed dollars ascii tags TemplateCharacter in_template 0x0D rest n)))
+  line_kept before lf = (0x0A, TemplateCharacter.line_end lf)
+  line_kept before (cr {rest = rest} n) = (0x0D, TemplateCharacter.line_end (cr (no_feed dollars ascii tags TemplateCharacter in_template 0x0D rest n)))
   line_kept before (ls {rest = rest}) = separator_itself dollars ascii tags TemplateCharacter in_template before 0x2028 rest (inl refl)
   line_kept before (ps {rest = rest}) = separator_itself dollars ascii tags TemplateCharacter in_template before 0x2029 rest (inr refl)
-  line_kept before crlf = (0x0A, TemplateCharacter.line-end crlf)
+  line_kept before crlf = (0x0A, TemplateCharacter.line_end crlf)
 
   template_kept : {s rest u : List ℕ} (before : ℕ) → TemplateCharacter s rest u → TemplateKeeps before s rest u
   template_kept before (TemplateCharacter.dollar {rest = rest} n) = (0x24, TemplateCharacter.dollar (no_brace dollars ascii tags TemplateCharacter in_template 0x24 rest n))
   template_kept before (TemplateCharacter.escape e) = escape_kept dollars ascii tags TemplateCharacter in_template before e
   template_kept before (TemplateCharacter.continuation l) = continuation_kept dollars ascii tags TemplateCharacter in_template before l
-  template_kept before (TemplateCharacter.line-end l) = line_kept before l
+  template_kept before (TemplateCharacter.line_end l) = line_kept before l
   template_kept before (TemplateCharacter.source {c = c} {rest = rest} h q b d l) =
       (c, source dollars ascii tags TemplateCharacter in_template before c rest h b l (λ r. TemplateCharacter.source h q b d l))
 

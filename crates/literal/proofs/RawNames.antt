@@ -1,6 +1,6 @@
 -- A printed name is read as the name.
 use Rattle.std.proofs.Common.{ℕ, ◌≤◌, Bool, true, false, cond, ◌&&◌, leb, List, [], ◌∷◌, ◌++◌, refl, inr, append_assoc, arith}
-use Rattle.std.specs.List.{AllByRecursion as All}
+use Rattle.std.specs.List.{AllByRecursion}
 use Rattle.std.proofs.lemmas.Bool.{cond_both, and_right}
 use Rattle.ecma262.specs.Lookahead.{opens}
 use Rattle.ecma262.specs.Units.{utf16}
@@ -31,13 +31,13 @@ module _ (Allowed : ℕ → Type 0) where
 part_source : (c : ℕ) → NamePart c → c ≤ 0x10FFFF
 part_source c h = omega arith
 
-parts : (odd : Bool) (cs rest : List ℕ) → All NamePart cs → NotAhead GoesOn rest → NameParts (ascii_only Identifier odd cs ++ rest) rest cs
+parts : (odd : Bool) (cs rest : List ℕ) → AllByRecursion NamePart cs → NotAhead GoesOn rest → NameParts (ascii_only Identifier odd cs ++ rest) rest cs
 parts odd [] rest h n = NameParts.end n
 parts odd (c ∷ cs) rest h n =
     rw append_assoc
     (NameParts.more (character NamePart odd c cs (ascii_only Identifier (odd_behind odd c) cs ++ rest) (part_source c h.0) h.0) (parts (odd_behind odd c) cs rest h.1 n))
 
-raw-parts : (cs rest : List ℕ) → All NamePart cs → NotAhead GoesOn rest → NameParts (cs ++ rest) rest cs
+raw-parts : (cs rest : List ℕ) → AllByRecursion NamePart cs → NotAhead GoesOn rest → NameParts (cs ++ rest) rest cs
 raw-parts [] rest h n = NameParts.end n
 raw-parts (c ∷ cs) rest h n = NameParts.more (NameCharacter.raw h.0) (raw-parts cs rest h.1 n)
 

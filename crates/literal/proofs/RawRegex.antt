@@ -1,6 +1,6 @@
 -- A pattern that is printed keeps its tokens.
 use Rattle.std.proofs.Common.{◌≡◌, ℕ, zero, suc, ◌+◌, ◌*◌, ◌/◌, ◌%◌, ◌<◌, ◌≤◌, Bool, true, false, cond, not, ◌&&◌, eqb, ltb, leb, ◌≢◌, List, [], ◌∷◌, ◌++◌, Some, None, Option, sym, refl, ap, ◌∙◌, ⊎_elim, append_assoc, arith}
-use Rattle.std.specs.List.{AllByRecursion as All}
+use Rattle.std.specs.List.{AllByRecursion}
 use Rattle.std.proofs.lemmas.Bool.{cond_both, cond-true, and_parts, and_right, cases_eq, cases_lt, ne_eqb, eqb-true, lt-leb, le-leb, ltb-true, leb-true, false≢true}
 use Rattle.std.proofs.lemmas.Bool.Decides.{nat_tests}
 use Rattle.ecma262.specs.Lookahead.{opens}
@@ -28,15 +28,15 @@ unit_back u t h =
     rw (hex_at (u / 0x1000), hex_at (u / 0x100), hex_at (u / 0x10), hex_at u)
     (ap (λ n. unit n ∷ regex_units 0 t) (omega (arith, steps u)))
 
-units_back : (us t : List ℕ) → All (λ u. u < 0x10000) us → regex_units 0 (unit_escapes us ++ t) ≡ units_of us ++ regex_units 0 t
+units_back : (us t : List ℕ) → AllByRecursion (λ u. u < 0x10000) us → regex_units 0 (unit_escapes us ++ t) ≡ units_of us ++ regex_units 0 t
 units_back [] t h = refl
 units_back (u ∷ us) t h =
     ap (λ s. regex_units 0 (0x5C ∷ s)) (append_assoc (behind u (Unicode Upper)) (unit_escapes us) t)
     ∙ unit_back u (unit_escapes us ++ t) h.0 ∙ ap (λ s. unit u ∷ s) (units_back us t h.1)
 
-small_units : (c : ℕ) → c ≤ 0x10FFFF → All (λ u. u < 0x10000) (utf16 c)
+small_units : (c : ℕ) → c ≤ 0x10FFFF → AllByRecursion (λ u. u < 0x10000) (utf16 c)
 small_units c h =
-    cond_both (ltb c 0x10000) (c ∷ []) _ (All (λ u. u < 0x10000)) (λ t. (ltb-true c 0x10000 t, tt)) (λ f. (omega arith, (omega arith, tt)))
+    cond_both (ltb c 0x10000) (c ∷ []) _ (AllByRecursion (λ u. u < 0x10000)) (λ t. (ltb-true c 0x10000 t, tt)) (λ f. (omega arith, (omega arith, tt)))
 
 -- what is printed of a character above 7F is read as its units
 wide_back : (odd : Bool) (c : ℕ) (t : List ℕ) → c ≤ 0x10FFFF → regex_units 0 (wide_printed RegExp odd c ++ t) ≡ units_of (utf16 c) ++ regex_units 0 t

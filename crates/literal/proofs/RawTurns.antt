@@ -1,6 +1,6 @@
 -- What the walk over raw text prints of one character, and what it begins with.
 use Rattle.std.proofs.Common.{◌≡◌, ℕ, ◌+◌, ◌-◌, ◌/◌, ◌%◌, ◌<◌, Bool, true, false, cond, ◌&&◌, eqb, ltb, leb, ◌≢◌, List, [], ◌∷◌, ◌++◌, refl, arith}
-use Rattle.std.specs.List.{AllByRecursion as All}
+use Rattle.std.specs.List.{AllByRecursion}
 use Rattle.std.proofs.lemmas.Bool.{cond_both, and_left, false≢true}
 use Rattle.std.proofs.ByRecursion.{All-append}
 use Rattle.std.proofs.lemmas.Bool.Decides.{nat_tests}
@@ -29,22 +29,22 @@ digit_calm (capital g l e) = omega arith
 hex_calm : (letters : HexCase) (n : ℕ) → Calm (hex_digit letters (n % 0x10))
 hex_calm letters n = digit_calm (digit letters (n % 0x10) (omega arith))
 
-four_calm : (c : ℕ) → All Calm (behind c (Unicode Upper))
+four_calm : (c : ℕ) → AllByRecursion Calm (behind c (Unicode Upper))
 four_calm c = omega (arith, hex_calm)
 
-braces_calm : (c : ℕ) → All Calm (behind c CodePoint)
+braces_calm : (c : ℕ) → AllByRecursion Calm (behind c CodePoint)
 braces_calm c =
-    cond_both (ltb c 0x100000) [] (0x31 ∷ []) (λ ds. All Calm (0x75 ∷ 0x7B ∷ (ds ++ five_digits c))) (λ _. omega (arith, hex_calm)) (λ _. omega (arith, hex_calm))
+    cond_both (ltb c 0x100000) [] (0x31 ∷ []) (λ ds. AllByRecursion Calm (0x75 ∷ 0x7B ∷ (ds ++ five_digits c))) (λ _. omega (arith, hex_calm)) (λ _. omega (arith, hex_calm))
 
 -- a backslash, and calm characters behind it
 abbrev pub Escaping : List ℕ → Type 0
-Escaping s = (x : List ℕ) × (s ≡ 0x5C ∷ x) × All Calm x
+Escaping s = (x : List ℕ) × (s ≡ 0x5C ∷ x) × AllByRecursion Calm x
 
 literal_shape : (c : ℕ) → Escaping (0x5C ∷ behind c (wide c))
 literal_shape c =
-    (behind c (wide c), refl, cond_both (leb c 0xFFFF) (Unicode Upper) CodePoint (λ e. All Calm (behind c e)) (λ _. four_calm c) (λ _. braces_calm c))
+    (behind c (wide c), refl, cond_both (leb c 0xFFFF) (Unicode Upper) CodePoint (λ e. AllByRecursion Calm (behind c e)) (λ _. four_calm c) (λ _. braces_calm c))
 
-units_calm : (us : List ℕ) → All Calm (unit_escapes us)
+units_calm : (us : List ℕ) → AllByRecursion Calm (unit_escapes us)
 units_calm [] = tt
 units_calm (u ∷ us) = (omega arith, All-append Calm (behind u (Unicode Upper)) (unit_escapes us) (four_calm u) (units_calm us))
 

@@ -87,7 +87,7 @@ itself Double ascii before c cs rest h follows n =
     double (StringCharacter.source h (omega (arith, eqb-false)) (omega (arith, eqb-false)) (omega (arith, eqb-false)))
 itself Backtick ascii before c cs rest h follows n =
     ⊎_elim (λ e. rw e (template (TemplateCharacter.dollar (follows (grind (arith, nat_tests))))))
-    (λ no-dollar. ⊎_elim (λ e. rw e (template (TemplateCharacter.line-end lf)))
+    (λ no-dollar. ⊎_elim (λ e. rw e (template (TemplateCharacter.line_end lf)))
     (λ no_line. template (TemplateCharacter.source h (omega (arith, eqb-false)) (omega (arith, eqb-false)) no-dollar (omega (arith, eqb-false))))
     (cases_eq c 0x0A))
     (cases_eq c 0x24)

@@ -1,7 +1,7 @@
 -- The theorems on the literal that is printed of a text, whose code points are at most 10FFFF, lone surrogates among them.
 use Rattle.std.specs.Prelude.{◌≡◌, ℕ, ◌<◌, ◌≤◌, Bool, true, false, List, ◌++◌, length, drop}
 use Rattle.std.proofs.Math.Utf8.{encodes, scalars}
-use Rattle.std.specs.List.{AllByRecursion as All}
+use Rattle.std.specs.List.{AllByRecursion}
 use Rattle.ecma262.specs.Units.{Text, units}
 use Rattle.ecma262.specs.Lookahead.{opens}
 use Rattle.ecma262.specs.Literals.{Literal}
@@ -33,7 +33,7 @@ InBytes = (q : Quote) (ascii : Bool) (text : List ℕ) (place : ℕ) → opens t
 
 -- Where ASCII is asked for, every byte of a literal is ASCII.
 abbrev pub Plain : Type 0
-Plain = (q : Quote) (text : List ℕ) → All (λ b. b < 128) (encodes (literal q true text))
+Plain = (q : Quote) (text : List ℕ) → AllByRecursion (λ b. b < 128) (encodes (literal q true text))
 
 -- No permitted quote gives a literal of fewer bytes than the chosen one.
 abbrev pub Shortest : Type 0
@@ -45,7 +45,7 @@ Shortest =
 pub record Stands (q : Quote) (ascii : Bool) (text : List ℕ) : Type 0 where
   pub denotes : (rest : List ℕ) → Literal q (literal q ascii text ++ rest) rest (units text)
   pub tagless : (place : ℕ) → opens tag (drop place (encodes (literal q ascii text))) ≡ false
-  pub plain : ascii ≡ true → All (λ b. b < 128) (encodes (literal q ascii text))
+  pub plain : ascii ≡ true → AllByRecursion (λ b. b < 128) (encodes (literal q ascii text))
 
 -- All of this holds of the literal of every text.
 abbrev pub Standing : Type 0

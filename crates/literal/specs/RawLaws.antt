@@ -1,7 +1,7 @@
 -- The theorems on raw text that is printed.
 use Rattle.std.specs.Prelude.{◌≡◌, ℕ, ◌<◌, Bool, true, false, List, [], ◌++◌, drop}
 use Rattle.std.proofs.Math.Utf8.{encodes}
-use Rattle.std.specs.List.{AllByRecursion as All}
+use Rattle.std.specs.List.{AllByRecursion}
 use Rattle.ecma262.specs.Units.{Text}
 use Rattle.ecma262.specs.Lookahead.{opens}
 use Rattle.ecma262.specs.Literals.{NotAhead, Characters}
@@ -70,7 +70,7 @@ TaggedTagless =
 abbrev pub RawAscii : Type 0
 RawAscii =
     (minify : Bool) (text : List ℕ) →
-    All (λ b. b < 128) (encodes (piece minify true text))
-    × All (λ b. b < 128) (encodes (directive true text))
-    × All (λ b. b < 128) (encodes (regex_pattern true text))
-    × All (λ b. b < 128) (encodes (name true text))
+    AllByRecursion (λ b. b < 128) (encodes (piece minify true text))
+    × AllByRecursion (λ b. b < 128) (encodes (directive true text))
+    × AllByRecursion (λ b. b < 128) (encodes (regex_pattern true text))
+    × AllByRecursion (λ b. b < 128) (encodes (name true text))

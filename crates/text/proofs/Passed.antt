@@ -2,7 +2,7 @@
 use Rattle.std.proofs.Common.{◌≡◌, ℕ, ◌+◌, ◌-◌, ◌*◌, ◌<◌, ◌≤◌, Bool, true, false, cond, ◌&&◌, ◌||◌, eqb, ltb, leb, ◌≢◌, ◌⊎◌, List, [], ◌∷◌, ◌++◌, length, get_or, take, drop, is_some, Some, None, Option, sym, refl, ap, ◌∙◌, subst, inl, inr, ⊎_elim, arith, length-append, length-drop}
 use lib.Utf8.{encode, encodes}
 use Rattle.std.specs.Char.{len_utf8}
-use Rattle.std.specs.List.{AllByRecursion as All}
+use Rattle.std.specs.List.{AllByRecursion}
 use Rattle.std.proofs.lemmas.List.{drop_at, drop-drop, take_rest}
 use Rattle.std.proofs.lemmas.Bool.{both_ways, cases_Bool, cases_eq, cases_lt, eq-eqb, ne_eqb, le-leb, lt-leb, and_right, cond-true, cond-false}
 use Rattle.std.proofs.lemmas.Str.{length-encode, len_utf8_bounds}
@@ -22,7 +22,7 @@ use Rattle.text.proofs.Formed.{accepted, read}
 use Rattle.text.proofs.Escapes.{plain, at_backslash, at_backtick, at_dollar, at_x, at_u, at_zero, at_other}
 
 abbrev pub Wide : List ℕ → Type 0
-Wide = All (λ b. 0x80 ≤ b)
+Wide = AllByRecursion (λ b. 0x80 ≤ b)
 
 -- At a place: what is left of a character above 7F, and whole characters, whose breach is the one in question.
 abbrev pub Stands : ℕ → List ℕ → Option ℕ → Type 0

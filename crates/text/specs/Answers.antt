@@ -1,7 +1,7 @@
 -- What making a text value returns: numbers 1 to 5, tested in this order.
 use Rattle.std.specs.Prelude.{ℕ, Bool, true, false, cond, not, List, length, Some, None, Ok, Err, Option, Result, nat_lt}
 use Rattle.refusal.specs.Returned.{Returned, answer, done, refusal}
-use Rattle.refusal.specs.Returned.{returned as returnedBy}
+use Rattle.refusal.specs.Returned.{returned as returned_by}
 use Rattle.refusal.specs.declared.Refusal.{Refusal}
 use Rattle.refusal.specs.declared.Layer.TheVariants.{Text}
 use Rattle.ecma262.specs.Template.{template_breach}
@@ -21,7 +21,7 @@ tells (NotName place) = refusal 4 Text place
 tells (NotTemplate place) = refusal 5 Text place
 
 abbrev pub returned : {X : Type 0} → Result X TextFault → Returned
-returned r = returnedBy tells r
+returned r = returned_by tells r
 
 -- the number with the place, where there is one, else the next answer
 abbrev pub unless : ℕ → Option ℕ → Returned → Returned
