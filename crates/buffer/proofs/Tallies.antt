@@ -1,5 +1,5 @@
 -- A tally is the plain counts of the text, and goes on over texts one after the other.
-use Rattle.std.proofs.Common.{◌≡◌, ℕ, ◌+◌, true, false, cond, ◌||◌, eqb, List, [], ◌∷◌, ◌++◌, length, sym, refl, ap, ◌∙◌, add-zero, zero-add, arith}
+use Rattle.std.proofs.Common.{◌≡◌, ℕ, ◌+◌, true, false, cond, ◌||◌, eqb, List, [], ◌∷◌, length, sym, refl, ◌∙◌, add-zero, zero-add, arith}
 use Rattle.buffer.specs.KindsNote.{tally_join}
 use Rattle.buffer.specs.Tally.{Tally, tally, tally_of, nothing_yet, line_feeds_in, has_line_feed, after_last_line_feed, TallyIsPlainCounts}
 

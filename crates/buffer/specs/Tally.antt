@@ -1,5 +1,5 @@
 -- The line feeds of a text, and the bytes since the last of them.
-use Rattle.std.specs.Prelude.{◌≡◌, ℕ, ◌+◌, Bool, true, false, cond, ◌||◌, List, [], ◌∷◌, ◌++◌, length, ◌==◌}
+use Rattle.std.specs.Prelude.{◌≡◌, ℕ, ◌+◌, Bool, false, cond, ◌||◌, List, [], ◌∷◌, ◌++◌, length, ◌==◌}
 
 -- how many line feeds came, and how many bytes since the last one, or since the start where none came
 pub record Tally : Type 0 where

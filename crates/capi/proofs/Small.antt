@@ -1,11 +1,10 @@
 -- The value of an answer is far below 2^32: places are within the text, and what is printed is at most four times as long.
-use Rattle.std.proofs.Common.{◌≡◌, ℕ, ◌+◌, ◌*◌, ◌<◌, ◌≤◌, Bool, true, false, cond, ltb, List, [], ◌∷◌, ◌++◌, length, Some, None, Option, sym, refl, ap, ◌∙◌, subst, arith, length-append}
+use Rattle.std.proofs.Common.{◌≡◌, ℕ, ◌≤◌, Bool, false, cond, ltb, List, ◌++◌, length, Some, None, Option, sym, refl, ap, ◌∙◌, arith, length-append}
 use lib.Utf8.{encodes}
 use Rattle.std.proofs.lemmas.Bool.{ltb-false, cond_both}
 use Rattle.std.proofs.lemmas.Str.{encodes-append}
 use Rattle.refusal.specs.Returned.{Returned, answer, done}
 use Rattle.ecma262.specs.Template.{template_breach}
-use Rattle.ecma262.specs.Units.{Text}
 use Rattle.ecma262.proofs.Broken.{broken_at}
 use Rattle.text.specs.declared.well_formed.Encoding.{Encoding}
 use Rattle.text.specs.declared.well_formed.Encoding.TheVariants.{Wtf8, Utf8}

@@ -1,8 +1,8 @@
 -- From what a slice buffer was left as to the caller's bytes, and to the answer.
-use Rattle.std.proofs.Common.{◌≡◌, ℕ, ◌+◌, ◌*◌, ◌<◌, ◌≤◌, min, Bool, true, false, cond, eqb, leb, List, [], ◌∷◌, ◌++◌, length, take, drop, Ok, Err, Result, sym, refl, ap, ◌∙◌, subst, zero-add, arith}
+use Rattle.std.proofs.Common.{◌≡◌, ℕ, ◌<◌, ◌≤◌, min, Bool, true, false, cond, eqb, leb, List, [], ◌++◌, length, take, drop, Ok, Err, Result, sym, refl, ap, ◌∙◌, zero-add, arith}
 use Rattle.std.proofs.lemmas.List.{take-append-drop, length-take-le}
 use Rattle.std.proofs.lemmas.Bool.{eqb-true, eqb-false}
-use Rattle.refusal.specs.Returned.{Returned, answer, told}
+use Rattle.refusal.specs.Returned.{Returned, answer}
 use Rattle.buffer.specs.Faults.{returned as buffer_returned}
 use Rattle.buffer.specs.Kinds.{slice_limit, slice_bytes}
 use Rattle.buffer.specs.Meaning.{print_answer, accepted}

@@ -5,7 +5,6 @@ use Rattle.std.proofs.lemmas.List.{drop-drop, append-nil, at_drop_all}
 use Rattle.std.proofs.lemmas.List.Edits.{between_none}
 use Rattle.std.proofs.lemmas.Bool.{both_ways}
 use Rattle.ecma262.specs.declared.Quote.{Quote}
-use Rattle.ecma262.specs.declared.Quote.TheVariants.{Double}
 use Rattle.literal.specs.declared.EscapeSequence.{EscapeSequence}
 use Rattle.literal.specs.Escapes.{behind}
 use Rattle.literal.specs.Quotes.{chosen}

@@ -1,5 +1,5 @@
 -- The arms of a turn.
-use Rattle.std.proofs.Common.{◌≡◌, ℕ, ◌+◌, ◌<◌, ◌≤◌, Bool, true, false, cond, not, ◌&&◌, ◌||◌, eqb, ltb, leb, ◌⊎◌, List, [], ◌∷◌, ◌++◌, length, get_or, drop, Some, None, Option, sym, refl, ap, ◌∙◌, subst, ⊎_elim, add-zero, arith, length-drop}
+use Rattle.std.proofs.Common.{◌≡◌, ℕ, ◌+◌, ◌<◌, ◌≤◌, Bool, true, false, cond, eqb, ◌⊎◌, List, [], ◌∷◌, ◌++◌, length, get_or, drop, Some, None, Option, sym, refl, ap, ◌∙◌, subst, ⊎_elim, add-zero, arith, length-drop}
 use lib.Utf8.{encode, encodes}
 use Rattle.std.specs.Char.{len_utf8}
 use Rattle.std.specs.List.{AllByRecursion}
@@ -18,9 +18,8 @@ use Rattle.text.proofs.Codec.{sequence-encode}
 use Rattle.codegen.specs.declared.escape.Escape.{Escape}
 use Rattle.codegen.specs.declared.escape.Escape.TheVariants.{No, NU, BE, BK, VT, FF, NL, CR, ES, BS, SQ, DQ, BQ, DO, LT, LS, NB, SU, UC}
 use Rattle.codegen.specs.Classes.{class_in, short_of, wide_of, decides}
-use Rattle.codegen.specs.declared.turn.Turn.{Turn}
 use Rattle.codegen.specs.declared.turn.Turn.TheVariants.{Plain, Escaped, Tag}
-use Rattle.codegen.specs.Turns.{Fine, Fit, takes, is_plain, Turned, decides_at, Decided}
+use Rattle.codegen.specs.Turns.{Fine, Fit, Turned, decides_at, Decided}
 use Rattle.literal.specs.Quotes.{chosen}
 use Rattle.text.specs.Sequence.{code_points}
 use Rattle.ecma262.proofs.Utf8.{encode_1, same_front, first_test, digit_narrow, eqb_narrow}

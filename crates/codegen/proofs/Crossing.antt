@@ -1,12 +1,11 @@
 -- Code points and their bytes: what tests that pass ASCII alone see, and the first byte.
-use Rattle.std.proofs.Common.{◌≡◌, ℕ, ◌+◌, ◌/◌, ◌%◌, ◌<◌, ◌≤◌, Bool, true, false, cond, ◌&&◌, ◌||◌, eqb, ltb, leb, List, [], ◌∷◌, ◌++◌, length, get_or, drop, sym, refl, ap, ◌∙◌, ⊎_elim, arith}
-use lib.Utf8.{encode, encodes}
+use Rattle.std.proofs.Common.{◌≡◌, ℕ, ◌+◌, ◌/◌, ◌<◌, ◌≤◌, true, false, cond, eqb, ltb, List, [], ◌∷◌, ◌++◌, length, get_or, drop, sym, refl, ap, ◌∙◌, ⊎_elim, arith}
+use lib.Utf8.{encode}
 use Rattle.std.specs.Char.{len_utf8}
-use Rattle.std.specs.List.{AllByRecursion}
 use Rattle.std.proofs.lemmas.Bool.{cases_lt, and_left, and_right, ne_eqb}
 use Rattle.std.proofs.lemmas.Bool.Decides.{nat_tests}
-use Rattle.ecma262.specs.Lookahead.{opens, digit}
-use Rattle.literal.specs.Escapes.{same_letter, script, tag}
+use Rattle.ecma262.specs.Lookahead.{opens}
+use Rattle.literal.specs.Escapes.{script, tag}
 use Rattle.text.specs.Sequence.{is_surrogate, seq_len}
 use Rattle.ecma262.proofs.Utf8.{encode_1, encode_2, encode_3, encode_4}
 

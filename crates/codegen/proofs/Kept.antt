@@ -1,5 +1,5 @@
 -- What the laws of literals say of the literal of a text that exists.
-use Rattle.std.proofs.Common.{◌≡◌, ℕ, ◌≤◌, Bool, true, false, cond, List, [], ◌∷◌, ◌++◌, length, Some, None, Option, sym, refl, ap, ◌∙◌, subst, ⊎_elim, arith}
+use Rattle.std.proofs.Common.{◌≡◌, ℕ, ◌≤◌, Bool, true, false, cond, List, [], ◌∷◌, ◌++◌, length, Some, None, sym, refl, subst, ⊎_elim, arith}
 use lib.Utf8.{encodes, scalar, scalars, scalar_cases}
 use Rattle.std.proofs.lemmas.Bool.{and_parts}
 use Rattle.std.specs.List.{AllByRecursion}
@@ -9,7 +9,7 @@ use Rattle.ecma262.specs.Units.{Text}
 use Rattle.ecma262.proofs.Values.{unique}
 use Rattle.literal.specs.Laws.{Stands}
 use Rattle.literal.specs.Escapes.{literal}
-use Rattle.literal.specs.Quotes.{chosen, permitted}
+use Rattle.literal.specs.Quotes.{chosen}
 use Rattle.literal.proofs.Encoded.{stands}
 use Rattle.literal.proofs.Output.{all_scalar}
 use Rattle.text.specs.declared.well_formed.Encoding.TheVariants.{Utf8}
@@ -20,7 +20,7 @@ use Rattle.text.specs.Answers.{text_answer}
 use Rattle.text.specs.Sequence.{code_points}
 use Rattle.codegen.specs.declared.options.CodegenOptions.{CodegenOptions}
 use Rattle.codegen.specs.Cursor.{settled}
-use Rattle.codegen.specs.Strings.{quote_asked, quote_of_text, source_text, quoted, literal_bytes}
+use Rattle.codegen.specs.Strings.{quote_asked, quote_of_text, source_text, quoted}
 use Rattle.codegen.specs.Laws.{text_units, InUtf8, ReadBack, ReadOnce, NoScriptEnd, AsciiIfAsked, ShortestUnderMinify}
 use Rattle.codegen.specs.Turns.{Fine}
 use Rattle.codegen.proofs.Texts.{text-fits}

@@ -1,11 +1,8 @@
 -- One turn on, where the bytes are only counted.
-use Rattle.std.proofs.Common.{◌≡◌, ℕ, ◌+◌, ◌*◌, ◌<◌, ◌≤◌, Bool, List, [], ◌∷◌, ◌++◌, length, take, drop, sym, refl, ap, ◌∙◌, subst, arith, length-append, length-drop}
+use Rattle.std.proofs.Common.{◌≡◌, ℕ, ◌+◌, ◌*◌, ◌<◌, ◌≤◌, Bool, List, [], ◌∷◌, ◌++◌, length, take, drop, ap, ◌∙◌, subst, arith, length-append, length-drop}
 use Rattle.std.proofs.lemmas.List.{drop-drop, length-take-le}
-use Rattle.literal.specs.declared.EscapeSequence.{EscapeSequence}
 use Rattle.ecma262.specs.declared.Quote.{Quote}
-use Rattle.literal.specs.Escapes.{behind}
 use Rattle.codegen.specs.declared.turn.Turn.{Turn}
-use Rattle.codegen.specs.declared.turn.Turn.TheVariants.{Plain, Escaped, Tag}
 use Rattle.codegen.specs.Turns.{Fit, takes, puts, body, Turned}
 
 pub record Moved (q : Quote) (ascii lone : Bool) (bytes : List ℕ) (at : ℕ) (r : Turn) : Type 0 where

@@ -1,11 +1,11 @@
 -- The arms of a raw turn, at a place of the bytes.
-use Rattle.std.proofs.Common.{◌≡◌, ℕ, suc, ◌+◌, ◌-◌, ◌/◌, ◌%◌, ◌<◌, ◌≤◌, Bool, true, false, cond, not, ◌&&◌, ◌||◌, eqb, leb, List, [], ◌∷◌, ◌++◌, length, get_or, take, drop, sym, refl, ap, ◌∙◌, subst, add-zero, arith, length-drop}
+use Rattle.std.proofs.Common.{◌≡◌, ℕ, suc, ◌+◌, ◌-◌, ◌/◌, ◌%◌, ◌<◌, ◌≤◌, Bool, true, false, not, ◌&&◌, ◌||◌, eqb, leb, List, [], ◌∷◌, ◌++◌, length, get_or, drop, sym, refl, ap, ◌∙◌, subst, add-zero, arith, length-drop}
 use lib.Utf8.{encode, encodes}
 use Rattle.std.specs.Char.{len_utf8}
 use Rattle.std.specs.List.{AllByRecursion}
 use Rattle.std.proofs.lemmas.List.{get_or-drop}
 use Rattle.std.proofs.lemmas.Str.{encodes-append}
-use Rattle.std.proofs.lemmas.Bool.{and_left, and_right, and_parts, eqb-true, ne_eqb, both_ways, le-ltb}
+use Rattle.std.proofs.lemmas.Bool.{and_left, and_right, and_parts, eqb-true, both_ways, le-ltb}
 use Rattle.std.proofs.lemmas.Bool.Decides.{nat_tests}
 use Rattle.ecma262.specs.Lookahead.{opens}
 use Rattle.ecma262.specs.Units.{utf16}
@@ -18,7 +18,7 @@ use Rattle.literal.proofs.Encoded.{tag_narrow}
 use Rattle.text.specs.Sequence.{sequence, code_points}
 use Rattle.text.proofs.Codec.{sequence-encode}
 use Rattle.codegen.specs.declared.raw_turn.RawTurn.TheVariants.{Keep, Drop, Escaped, LineEnd, Tag}
-use Rattle.codegen.specs.RawTurns.{goes_before, raw_body, odd_after, RawTurned}
+use Rattle.codegen.specs.RawTurns.{goes_before, raw_body, RawTurned}
 use Rattle.codegen.specs.Turns.{Fine, Fit}
 use Rattle.codegen.proofs.Crossing.{lead_byte, lead_byte_lem, low, high}
 use Rattle.codegen.proofs.Steps.{Front, front, reads, fit-encodes, encodes-plain}

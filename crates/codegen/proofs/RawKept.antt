@@ -1,5 +1,5 @@
 -- Raw text that exists is made of characters; what is printed of it is the walk's; and what the laws say of it.
-use Rattle.std.proofs.Common.{◌≡◌, ℕ, ◌<◌, ◌≤◌, Bool, true, false, ◌||◌, eqb, leb, ◌⊎◌, List, [], ◌∷◌, ◌++◌, length, None, sym, refl, ap, ◌∙◌, subst, inl, inr, ⊎_elim, arith}
+use Rattle.std.proofs.Common.{◌≡◌, ℕ, ◌≤◌, Bool, true, false, ◌||◌, eqb, leb, List, [], ◌∷◌, ◌++◌, length, sym, refl, ap, ◌∙◌, subst, inl, inr, ⊎_elim, arith}
 use lib.Utf8.{encodes}
 use Rattle.std.specs.List.{AllByRecursion}
 use Rattle.std.proofs.lemmas.Bool.{or_cases, and_parts, eqb-true, leb-true, both_ways}
@@ -11,16 +11,16 @@ use Rattle.ecma262.proofs.Broken.{unbroken}
 use Rattle.ecma262.proofs.Values.{unique}
 use Rattle.ecma262.specs.Names.{NameStart, NamePart, NameText}
 use Rattle.literal.specs.declared.NonAsciiEscape.TheVariants.{Identifier, RegExp, TemplateRaw, Directive}
-use Rattle.literal.specs.Raw.{piece, tagged_piece, directive, regex_pattern, name}
+use Rattle.literal.specs.Raw.{piece}
 use Rattle.literal.proofs.OneWalk.{piece_in_one_walk, tagged_in_one_walk, others_in_one_walk}
 use Rattle.literal.proofs.RawKept.{piece_kept, tagged_kept, directive_kept}
 use Rattle.literal.proofs.RawNames.{name_read}
 use Rattle.literal.proofs.RawOutput.{piece-tagless, tagged_tagless, raw_ascii}
 use Rattle.literal.proofs.RawRegex.{regex_kept}
 use Rattle.text.specs.declared.well_formed.Encoding.TheVariants.{Utf8}
-use Rattle.text.specs.Wtf8.{Surrogate, Barred, Points, WellFormed}
-use Rattle.text.specs.Names.{is_letter, is_digit, starts_name, continues_name, name_breach, Continues, KeepsRule, IsName}
-use Rattle.text.specs.Sequence.{is_surrogate, code_points}
+use Rattle.text.specs.Wtf8.{Barred, Points, WellFormed}
+use Rattle.text.specs.Names.{is_letter, is_digit, starts_name, continues_name, Continues, IsName}
+use Rattle.text.specs.Sequence.{code_points}
 use Rattle.text.specs.Answers.{raw_answer, name_answer, template_answer}
 use Rattle.text.proofs.Formed.{good-raw, good-name, good-template, read}
 use Rattle.text.proofs.Ruled.{named}

@@ -1,31 +1,28 @@
 -- The raw turns that are right.
-use Rattle.std.proofs.Common.{◌≡◌, ℕ, suc, ◌+◌, ◌<◌, ◌≤◌, Bool, true, false, cond, not, ◌&&◌, ◌||◌, eqb, leb, List, [], ◌∷◌, ◌++◌, length, get_or, take, drop, sym, refl, ap, ◌∙◌, subst, ⊎_elim, append_assoc, add-zero, arith, length-drop}
+use Rattle.std.proofs.Common.{◌≡◌, ℕ, ◌<◌, ◌≤◌, Bool, true, false, cond, not, ◌&&◌, eqb, leb, List, [], ◌∷◌, ◌++◌, get_or, take, drop, sym, refl, ap, ◌∙◌, subst, arith}
 use lib.Utf8.{encode, encodes}
 use Rattle.std.specs.Char.{len_utf8}
 use Rattle.std.specs.List.{AllByRecursion}
-use Rattle.std.proofs.lemmas.List.{append-nil, get_or-drop}
+use Rattle.std.proofs.lemmas.List.{append-nil}
 use Rattle.std.proofs.lemmas.Str.{len_utf8_bounds, len_utf8_ascii, encodes-append}
-use Rattle.std.proofs.lemmas.Bool.{and_left, and_right, and_parts, and_from, or_left, cond-true, cond-false, le-leb, lt-leb, eqb-true, ne_eqb, eq-eqb, both_ways, cases_Bool, leb-true}
+use Rattle.std.proofs.lemmas.Bool.{and_left, and_right, and_from, cond-true, cond-false, le-leb, lt-leb, ne_eqb}
 use Rattle.std.proofs.lemmas.Bool.Decides.{nat_tests}
 use Rattle.ecma262.specs.Lookahead.{opens}
 use Rattle.ecma262.specs.Units.{utf16}
-use Rattle.ecma262.proofs.Utf8.{encode_1, same_front, first_test, eqb_narrow}
 use Rattle.literal.specs.declared.NonAsciiEscape.{NonAsciiEscape}
 use Rattle.literal.specs.declared.NonAsciiEscape.TheVariants.{Identifier, RegExp, TemplateRaw, Directive}
 use Rattle.literal.specs.declared.EscapeSequence.TheVariants.{Unicode, CodePoint}
 use Rattle.literal.specs.declared.HexCase.TheVariants.{Upper}
 use Rattle.literal.specs.Escapes.{script, tag, behind}
-use Rattle.literal.specs.Raw.{odd_behind, bare_dollar, loses_backslash, continues_lines, is_separator, wide, unit_escapes, wide_escape, wide_printed}
+use Rattle.literal.specs.Raw.{odd_behind, continues_lines, is_separator, wide, unit_escapes, wide_escape, wide_printed}
 use Rattle.literal.specs.RawWalk.{backslash_goes, raw_turn, raw_walk}
-use Rattle.literal.proofs.Encoded.{tag_narrow}
-use Rattle.text.specs.Sequence.{sequence, code_points}
-use Rattle.text.proofs.Codec.{sequence-encode}
+use Rattle.text.specs.Sequence.{code_points}
 use Rattle.codegen.specs.declared.raw_turn.RawTurn.{RawTurn}
-use Rattle.codegen.specs.declared.raw_turn.RawTurn.TheVariants.{Keep, Drop, Escaped, LineEnd, Tag}
-use Rattle.codegen.specs.RawTurns.{goes_before, raw_takes, raw_puts, raw_body, odd_after, RawTurned}
-use Rattle.codegen.specs.Turns.{Fine, Fit}
-use Rattle.codegen.proofs.Crossing.{lead_byte, lead_byte_lem, low, high}
-use Rattle.codegen.proofs.Steps.{Front, front, reads, fit-encodes, encodes-plain, escape-plain, width_fits, rest_is, front_is, points_are, rest-fit}
+use Rattle.codegen.specs.declared.raw_turn.RawTurn.TheVariants.{Keep, Drop, Escaped, LineEnd}
+use Rattle.codegen.specs.RawTurns.{raw_takes, raw_puts, raw_body, odd_after, RawTurned}
+use Rattle.codegen.specs.Turns.{Fit}
+use Rattle.codegen.proofs.Crossing.{lead_byte, lead_byte_lem}
+use Rattle.codegen.proofs.Steps.{Front, reads, encodes-plain, escape-plain, width_fits, rest_is, front_is, points_are, rest-fit}
 
 -- the character before matters to </script alone
 same_turn : (dollars ascii : Bool) (mode : NonAsciiEscape) (tags odd : Bool) (c d : ℕ) (ds : List ℕ) → (eqb d 0x2F && eqb c 0x3C && opens script ds && tags) ≡ false →

@@ -1,23 +1,22 @@
 -- The turns that are right.
-use Rattle.std.proofs.Common.{◌≡◌, ℕ, suc, ◌+◌, ◌%◌, ◌<◌, ◌≤◌, Bool, true, false, cond, not, ◌&&◌, ◌||◌, eqb, ltb, leb, List, [], ◌∷◌, ◌++◌, length, get_or, take, drop, Some, None, Option, sym, refl, ap, ◌∙◌, subst, ⊎_elim, append_assoc, arith, length-append}
+use Rattle.std.proofs.Common.{◌≡◌, ℕ, ◌<◌, ◌≤◌, Bool, true, false, cond, ◌&&◌, eqb, ltb, List, [], ◌∷◌, ◌++◌, length, take, drop, Some, None, Option, sym, refl, ap, ◌∙◌, subst, arith, length-append}
 use Rattle.std.proofs.lemmas.List.{append-nil, take_at, drop_at}
 use lib.Utf8.{encode, encodes}
 use Rattle.std.specs.Char.{len_utf8}
 use Rattle.std.specs.List.{AllByRecursion}
 use Rattle.std.proofs.lemmas.Str.{length-encode, len_utf8_bounds, encodes-append}
-use Rattle.std.proofs.lemmas.Bool.{and_left, and_parts, and_right, cond_both, eqb-true, eqb-false, cases_Bool}
+use Rattle.std.proofs.lemmas.Bool.{and_left, and_right}
 use Rattle.std.proofs.lemmas.Bool.Decides.{nat_tests}
 use Rattle.literal.specs.declared.EscapeSequence.{EscapeSequence}
 use Rattle.literal.specs.declared.EscapeSequence.TheVariants.{Null, Character, Hex, Unicode, CodePoint}
-use Rattle.literal.specs.declared.HexCase.TheVariants.{Lower, Upper}
 use Rattle.ecma262.specs.declared.Quote.{Quote}
 use Rattle.ecma262.specs.declared.Quote.TheVariants.{Single, Double, Backtick}
 use Rattle.ecma262.specs.Lookahead.{opens}
-use Rattle.literal.specs.Escapes.{script, hex_digit, five_digits, behind, first, pick, rules, quote_rules, other_rules, printed, tag}
+use Rattle.literal.specs.Escapes.{script, five_digits, behind, first, pick, rules, other_rules, printed, tag}
 use Rattle.literal.specs.Quiet.{quiet}
 use Rattle.literal.proofs.Output.{hex-quiet}
 use Rattle.literal.proofs.Measured.{put, first-put, picked_quiet}
-use Rattle.text.specs.Sequence.{is_surrogate, seq_len, points, code_points}
+use Rattle.text.specs.Sequence.{code_points}
 use Rattle.ecma262.proofs.Utf8.{encode_1}
 use Rattle.text.proofs.Formed.{point_step}
 use Rattle.codegen.specs.declared.turn.Turn.{Turn}

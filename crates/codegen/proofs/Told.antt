@@ -1,19 +1,15 @@
 -- What a class tells of the byte, and that the escapes of the classes are those of the rules.
-use Rattle.std.proofs.Common.{◌≡◌, ℕ, ◌+◌, ◌<◌, ◌≤◌, Bool, true, false, cond, not, ◌&&◌, ◌||◌, eqb, ltb, leb, List, [], ◌∷◌, ◌++◌, Some, None, Option, sym, refl, ap, ◌∙◌, subst, ⊎_elim, arith}
+use Rattle.std.proofs.Common.{◌≡◌, ℕ, ◌<◌, ◌≤◌, Bool, true, false, ◌&&◌, ◌||◌, eqb, leb, List, [], ◌∷◌, None, refl, ◌∙◌, ⊎_elim, arith}
 use Rattle.std.proofs.lemmas.Bool.{both_ways, cond_both, and_parts, and_from, or_right, eqb-true, eqb-false, eq-eqb, ne_eqb, leb-true, cases_lt, cases_Bool}
 use Rattle.std.proofs.lemmas.Bool.Decides.{nat_tests}
-use Rattle.literal.specs.declared.EscapeSequence.{EscapeSequence}
-use Rattle.literal.specs.declared.EscapeSequence.TheVariants.{Null, Character, Hex, Unicode, CodePoint}
-use Rattle.literal.specs.declared.HexCase.TheVariants.{Lower, Upper}
 use Rattle.ecma262.specs.declared.Quote.{Quote}
 use Rattle.ecma262.specs.declared.Quote.TheVariants.{Single, Double, Backtick}
 use Rattle.ecma262.specs.Lookahead.{opens, digit}
-use Rattle.literal.specs.Escapes.{script, is_backtick, pick, rules, other_rules, tag}
-use Rattle.ecma262.specs.Units.{mark}
+use Rattle.literal.specs.Escapes.{pick, rules, other_rules}
 use Rattle.text.specs.Sequence.{is_surrogate}
 use Rattle.codegen.specs.declared.escape.Escape.{Escape}
 use Rattle.codegen.specs.declared.escape.Escape.TheVariants.{No, NU, BE, BK, VT, FF, NL, CR, ES, BS, SQ, DQ, BQ, DO, LT, LS, NB, SU, UC}
-use Rattle.codegen.specs.Classes.{class_of, class_in, short_of, wide_of}
+use Rattle.codegen.specs.Classes.{class_in, short_of, wide_of}
 use Rattle.codegen.proofs.Crossing.{lead_byte, low, high, nbsp, line_sep, para_sep, surrogate}
 
 -- a byte of no class

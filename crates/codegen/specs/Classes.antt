@@ -5,7 +5,6 @@ use Rattle.literal.specs.declared.EscapeSequence.{EscapeSequence}
 use Rattle.literal.specs.declared.EscapeSequence.TheVariants.{Null, Character, Hex, Unicode, CodePoint}
 use Rattle.literal.specs.declared.HexCase.TheVariants.{Lower, Upper}
 use Rattle.ecma262.specs.declared.Quote.{Quote}
-use Rattle.ecma262.specs.declared.Quote.TheVariants.{Single, Double, Backtick}
 use Rattle.ecma262.specs.Lookahead.{digit}
 use Rattle.literal.specs.Escapes.{is_backtick}
 use Rattle.ecma262.specs.Units.{mark}

@@ -1,5 +1,5 @@
 -- The raw printer's cursor: what is still pending, and what each of its steps keeps.
-use Rattle.std.specs.Prelude.{◌≡◌, ℕ, ◌+◌, ◌≤◌, Bool, true, false, List, [], ◌∷◌, ◌++◌, length, drop}
+use Rattle.std.specs.Prelude.{◌≡◌, ℕ, ◌+◌, ◌≤◌, Bool, false, List, ◌++◌, length, drop}
 use Rattle.std.specs.List.{between}
 use Rattle.buffer.specs.declared.code_buffer.CodeBuffer.{Ghosts}
 use Rattle.buffer.specs.Printing.{Appends}

@@ -1,5 +1,5 @@
 -- A turn of the raw printer: what it takes of the text, and what it prints.
-use Rattle.std.specs.Prelude.{◌≡◌, ℕ, ◌<◌, ◌≤◌, Bool, true, false, cond, not, ◌&&◌, ◌||◌, List, [], ◌∷◌, ◌++◌, length, take, drop, ◌==◌, nat_le, slice_index}
+use Rattle.std.specs.Prelude.{◌≡◌, ℕ, ◌<◌, ◌≤◌, Bool, false, not, ◌&&◌, ◌||◌, List, [], ◌∷◌, ◌++◌, length, take, drop, ◌==◌, nat_le, slice_index}
 use Rattle.std.proofs.Math.Utf8.{encodes}
 use Rattle.literal.specs.declared.NonAsciiEscape.{NonAsciiEscape}
 use Rattle.literal.specs.Raw.{odd_behind, loses_backslash, wide_escape}

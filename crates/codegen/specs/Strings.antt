@@ -1,8 +1,8 @@
 -- The literal of a text: its quotes by the options, and its bytes.
-use Rattle.std.specs.Prelude.{◌≡◌, ℕ, ◌+◌, ◌<◌, ◌≤◌, Bool, true, false, cond, List, [], ◌∷◌, ◌++◌, Some, None, Option}
+use Rattle.std.specs.Prelude.{◌≡◌, ℕ, ◌+◌, ◌<◌, ◌≤◌, Bool, cond, List, Some, None, Option}
 use Rattle.std.proofs.Math.Utf8.{encodes}
 use Rattle.ecma262.specs.declared.Quote.{Quote}
-use Rattle.ecma262.specs.declared.Quote.TheVariants.{Single, Double, Backtick}
+use Rattle.ecma262.specs.declared.Quote.TheVariants.{Single, Double}
 use Rattle.literal.specs.Escapes.{literal}
 use Rattle.literal.specs.Quotes.{chosen}
 use Rattle.text.specs.Sequence.{code_points}

@@ -1,5 +1,5 @@
 -- A turn of the printer: what it takes of the text, and what it prints.
-use Rattle.std.specs.Prelude.{◌≡◌, ℕ, ◌+◌, ◌<◌, ◌≤◌, Bool, true, false, cond, List, [], ◌∷◌, ◌++◌, length, take, drop, slice_index}
+use Rattle.std.specs.Prelude.{◌≡◌, ℕ, ◌+◌, ◌<◌, ◌≤◌, Bool, true, false, List, [], ◌∷◌, ◌++◌, length, take, drop, slice_index}
 use Rattle.std.proofs.Math.Utf8.{encodes}
 use Rattle.std.specs.List.{AllByRecursion}
 use Rattle.ecma262.specs.declared.Quote.{Quote}

@@ -1,5 +1,5 @@
 -- What one more word makes of the options that a line names.
-use Rattle.std.proofs.Common.{◌≡◌, ℕ, ◌<◌, Bool, true, false, eqb, List, [], ◌∷◌, length, Ok, Err, Result, sym, refl, ap, ◌∙◌, arith}
+use Rattle.std.proofs.Common.{◌≡◌, ℕ, ◌<◌, false, eqb, List, [], ◌∷◌, length, Ok, Err, Result, sym, ap, ◌∙◌, arith}
 use Rattle.job.specs.declared.calls.JobOptions.{JobOptions}
 use Rattle.job.specs.declared.faults.Expected.{Expected}
 use Rattle.job.specs.Lines.{trim, word, behind, words}

@@ -1,8 +1,8 @@
 -- The first line of a text and the first word of a line, cut off.
-use Rattle.std.proofs.Common.{◌≡◌, ℕ, suc, ◌+◌, ◌<◌, ◌≤◌, Bool, true, false, cond, not, eqb, List, [], ◌∷◌, length, take, drop, sym, refl, ap, ◌∙◌, subst, add-one, one-add, arith}
+use Rattle.std.proofs.Common.{◌≡◌, ℕ, suc, ◌<◌, Bool, true, false, not, eqb, List, [], ◌∷◌, length, take, drop, sym, refl, ap, ◌∙◌, subst, one-add, arith}
 use Rattle.job.specs.declared.bytes.Stop.{Stop}
 use Rattle.job.specs.declared.bytes.Stop.TheVariants.{Blank, Ink, Byte}
-use Rattle.job.specs.Lines.{blank, stops, before, trim, word, behind, onto, lines, ends_word, words}
+use Rattle.job.specs.Lines.{blank, stops, before, trim, word, behind, onto, lines, words}
 
 -- what begins with no blank
 abbrev pub Inked : List ℕ → Type 0

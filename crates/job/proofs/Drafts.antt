@@ -1,5 +1,5 @@
 -- What a setting and a call make of the lines before them.
-use Rattle.std.proofs.Common.{◌≡◌, ℕ, suc, Bool, true, false, cond, eqb, List, [], ◌∷◌, ◌++◌, map, length, is_some, Ok, Err, vec_items, vec_len, Result, Vec, sym, refl, ap, ◌∙◌}
+use Rattle.std.proofs.Common.{◌≡◌, ℕ, suc, Bool, true, false, eqb, List, [], ◌∷◌, ◌++◌, map, length, is_some, Ok, Err, vec_items, vec_len, Result, Vec, sym, refl, ap, ◌∙◌}
 use Rattle.std.specs.declared.alloc.Global.{Global}
 use Rattle.job.specs.declared.calls.Call.{Call}
 use Rattle.job.specs.declared.calls.CallKind.{CallKind}

@@ -1,5 +1,5 @@
 -- What one more byte tells of a run, of the number that it has before it ends.
-use Rattle.std.proofs.Common.{◌≡◌, ℕ, ◌+◌, ◌<◌, ◌≤◌, Bool, true, false, cond, List, [], ◌∷◌, length, get_or, take, drop, sym, refl, ap, ◌∙◌, add-zero, add_assoc, add-one, arith, drop-cons}
+use Rattle.std.proofs.Common.{◌≡◌, ℕ, ◌+◌, ◌<◌, true, false, cond, List, length, get_or, drop, ◌∙◌, add-one, drop-cons}
 use Rattle.job.specs.declared.bytes.Stop.{Stop}
 use Rattle.job.specs.Lines.{stops, before}
 

@@ -1,6 +1,5 @@
 -- Tests that decide whether two texts are the same, and choices by such tests.
-use Rattle.std.proofs.Common.{◌≡◌, ℕ, Bool, true, false, cond, List, [], ◌∷◌, Decides, sym, refl, ap, ◌∙◌, subst, rules}
-use Rattle.std.specs.Str.{bytes_eq}
+use Rattle.std.proofs.Common.{◌≡◌, ℕ, Bool, true, false, cond, List, Decides, sym, rules}
 use Rattle.std.proofs.lemmas.Slice.Eq.{bytes_eq-Decides}
 use Rattle.job.specs.Lines.{same}
 

@@ -1,5 +1,5 @@
 -- What one more line makes of a job.
-use Rattle.std.proofs.Common.{◌≡◌, ℕ, ◌+◌, ◌<◌, Bool, true, false, ◌||◌, eqb, List, [], ◌∷◌, length, take, drop, Ok, Err, Result, sym, refl, ap, ◌∙◌, arith, true-eqb}
+use Rattle.std.proofs.Common.{◌≡◌, ℕ, ◌+◌, Bool, true, false, ◌||◌, eqb, List, [], ◌∷◌, length, take, drop, Ok, Err, Result, sym, refl, ap, ◌∙◌, arith, true-eqb}
 use Rattle.job.specs.declared.bytes.Stop.TheVariants.{Byte}
 use Rattle.job.specs.declared.faults.Expected.{Expected}
 use Rattle.job.specs.declared.faults.JobFault.{JobFault}

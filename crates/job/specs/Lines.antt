@@ -1,5 +1,5 @@
 -- Where lines and words end: the blanks, and how many bytes stand before one at which a run stops.
-use Rattle.std.specs.Prelude.{ℕ, ◌+◌, Bool, true, false, cond, not, ◌||◌, List, [], ◌∷◌, take, drop, ◌==◌}
+use Rattle.std.specs.Prelude.{ℕ, ◌+◌, Bool, true, cond, not, ◌||◌, List, [], ◌∷◌, take, drop, ◌==◌}
 use Rattle.std.specs.Str.{bytes_eq}
 use Rattle.job.specs.declared.bytes.Stop.{Stop}
 use Rattle.job.specs.declared.bytes.Stop.TheVariants.{Blank, Ink, Byte}

@@ -1,9 +1,8 @@
 -- The keywords that a line may begin with.
-use Rattle.std.specs.Prelude.{ℕ, Bool, true, false, cond, List, [], ◌∷◌, length, take, drop, Some, None, codes, Option, ◌==◌}
+use Rattle.std.specs.Prelude.{ℕ, cond, List, length, take, drop, Some, None, codes, Option, ◌==◌}
 use Rattle.job.specs.declared.bytes.Stop.TheVariants.{Byte}
 use Rattle.job.specs.declared.calls.CallKind.{CallKind}
 use Rattle.job.specs.declared.calls.CallKind.TheVariants.{Quoted, QuotedOrBacktick, Template}
-use Rattle.job.specs.declared.words.Flag.{Flag}
 use Rattle.job.specs.declared.words.Flag.TheVariants.{Exact, Lone, Plain}
 use Rattle.job.specs.declared.words.Form.{Form}
 use Rattle.job.specs.declared.words.Form.TheVariants.{AsItStands, Hex}

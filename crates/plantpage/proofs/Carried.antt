@@ -1,7 +1,7 @@
 -- What is answered and held after a call that was carried out.
-use Rattle.std.proofs.Common.{◌≡◌, ℕ, ◌+◌, ◌-◌, ◌≤◌, Bool, true, cond, eqb, leb, List, ◌++◌, length, Ok, Err, Result, sym, refl, ap, ◌∙◌, subst, arith}
+use Rattle.std.proofs.Common.{◌≡◌, ℕ, ◌+◌, ◌≤◌, Bool, true, cond, eqb, leb, List, ◌++◌, length, Ok, Result, sym, ap, ◌∙◌, arith}
 use Rattle.std.proofs.lemmas.Bool.{le-leb}
-use Rattle.refusal.specs.Returned.{Returned, answer, done}
+use Rattle.refusal.specs.Returned.{answer, done}
 use Rattle.buffer.specs.declared.code_buffer.BufferFault.{BufferFault}
 use Rattle.buffer.specs.declared.code_buffer.CodeBuffer.{Ghosts}
 use Rattle.buffer.specs.Printing.{Prints, Appends}

@@ -1,5 +1,5 @@
 -- What carrying out one call answers, and what the page holds then.
-use Rattle.std.specs.Prelude.{ℕ, ◌+◌, Bool, true, false, cond, List, ◌++◌, length, Ok, Err, Result, ◌==◌, nat_le}
+use Rattle.std.specs.Prelude.{ℕ, ◌+◌, Bool, cond, List, ◌++◌, length, Ok, Err, Result, ◌==◌, nat_le}
 use Rattle.refusal.specs.Returned.{Returned, answer, told}
 use Rattle.refusal.specs.declared.Refusal.{Refusal}
 use Rattle.text.specs.Answers.{text_answer}

@@ -1,10 +1,10 @@
 -- How long a template character is, by its first bytes; and one step of the digits of a code point between braces.
-use Rattle.std.proofs.Common.{◌≡◌, ℕ, ◌+◌, ◌*◌, ◌<◌, ◌≤◌, Bool, true, false, cond, ◌&&◌, eqb, leb, ◌≢◌, List, [], ◌∷◌, length, get_or, drop, Some, None, Option, sym, refl, ap, ◌∙◌, arith}
+use Rattle.std.proofs.Common.{◌≡◌, ℕ, ◌+◌, ◌*◌, ◌<◌, ◌≤◌, cond, ◌&&◌, eqb, leb, ◌≢◌, List, ◌∷◌, length, get_or, drop, Some, None, sym, refl, ap, ◌∙◌, arith}
 use Rattle.std.proofs.lemmas.List.{at_drop_more}
 use Rattle.std.proofs.lemmas.Bool.{eq-eqb, ne_eqb, le-leb, lt-leb, cond-false}
 use Rattle.ecma262.specs.Lookahead.{digit}
 use Rattle.ecma262.specs.Read.{hex_value}
-use Rattle.text.specs.Template.{is_hex, with_digit, closes, braced_length, unicode_length, escape_length, character_length}
+use Rattle.text.specs.Template.{is_hex, with_digit, closes, unicode_length, escape_length, character_length}
 
 module _ (bytes : List ℕ) (at sofar : ℕ) (inside : at < length bytes) where
   next : ℕ → ℕ

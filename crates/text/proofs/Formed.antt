@@ -1,22 +1,22 @@
 -- The theorems on well-formed bytes.
-use Rattle.std.proofs.Common.{◌≡◌, ℕ, zero, suc, ◌+◌, ◌-◌, ◌*◌, ◌/◌, ◌%◌, ◌<◌, ◌≤◌, Bool, true, false, cond, ◌&&◌, ◌||◌, eqb, ltb, leb, ◌⊎◌, List, [], ◌∷◌, ◌++◌, length, take, drop, Some, None, Option, sym, refl, ap, ◌∙◌, subst, inl, inr, ⊎_elim, append_assoc, arith, length-append}
+use Rattle.std.proofs.Common.{◌≡◌, ℕ, ◌+◌, ◌/◌, ◌%◌, ◌<◌, ◌≤◌, Bool, true, false, cond, ◌&&◌, ◌||◌, eqb, ltb, leb, List, [], ◌∷◌, ◌++◌, length, drop, Some, None, Option, sym, refl, ap, ◌∙◌, subst, ⊎_elim, append_assoc, arith, length-append}
 use lib.Utf8.{encode, encodes}
 use Rattle.std.specs.Char.{len_utf8}
 use Rattle.std.proofs.lemmas.List.{take-append-drop, length-take-le}
-use Rattle.std.proofs.lemmas.Str.{length-encode, len_utf8_bounds, encode_same, encodes-append}
-use Rattle.std.proofs.lemmas.Bool.{cases_lt, cond_both, or_left, or_right, ne_eqb, eq-eqb, eqb-true, eqb-false, cases_Bool, and_from, lt-ltb, le-ltb, ltb-false}
+use Rattle.std.proofs.lemmas.Str.{length-encode, encode_same}
+use Rattle.std.proofs.lemmas.Bool.{cases_lt, or_left, or_right, ne_eqb, eqb-false, cases_Bool, lt-ltb, le-ltb, ltb-false}
 use Rattle.std.proofs.lemmas.Bool.Decides.{nat_tests}
 use Rattle.text.specs.declared.well_formed.Encoding.{Encoding}
 use Rattle.text.specs.declared.well_formed.Encoding.TheVariants.{Wtf8, Utf8}
-use Rattle.text.specs.Wtf8.{Points, WellFormed, last, Broken, Breach}
-use Rattle.text.specs.Sequence.{is_surrogate, bars, sequence, walk, breach, marked, surrogates, points, code_points}
+use Rattle.text.specs.Wtf8.{Points, WellFormed, last, Broken}
+use Rattle.text.specs.Sequence.{is_surrogate, sequence, walk, breach, marked, surrogates, points, code_points}
 use Rattle.refusal.specs.Returned.{Returned, answer, done}
 use Rattle.text.specs.Answers.{unless, is_same_flag, text_answer, raw_answer, name_answer, template_answer}
 use Rattle.text.specs.Names.{name_breach}
 use Rattle.text.specs.Laws.{Accepted, Placed, Longest, Sequences, Marked, Read}
 use Rattle.ecma262.specs.Template.{template_breach}
 use Rattle.ecma262.proofs.Utf8.{encode_1, encode_2, encode_3, encode_4}
-use Rattle.text.proofs.Codec.{Sound, sequence_sound, sequence-encode}
+use Rattle.text.proofs.Codec.{sequence_sound, sequence-encode}
 use Rattle.text.proofs.Walked.{barred_so, not_barred, walk_step, walk_stop, Outcome, outcome}
 
 module _ (form : Encoding) where

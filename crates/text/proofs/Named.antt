@@ -1,14 +1,12 @@
 -- The rule of names over bytes: each byte of a character above 7F is above 7F, so that it passes like its character.
-use Rattle.std.proofs.Common.{◌≡◌, ℕ, ◌+◌, ◌*◌, ◌/◌, ◌%◌, ◌<◌, ◌≤◌, Bool, true, false, cond, not, ◌&&◌, ◌||◌, eqb, ltb, leb, List, [], ◌∷◌, ◌++◌, length, get_or, drop, Some, None, Option, sym, refl, ap, ◌∙◌, subst, ⊎_elim, arith}
+use Rattle.std.proofs.Common.{◌≡◌, ℕ, ◌+◌, ◌/◌, ◌%◌, ◌<◌, ◌≤◌, true, false, cond, List, [], ◌∷◌, ◌++◌, length, get_or, drop, Some, None, Option, sym, refl, ap, ◌∙◌, subst, ⊎_elim, arith}
 use lib.Utf8.{encode, encodes}
 use Rattle.std.specs.Char.{len_utf8}
-use Rattle.std.proofs.lemmas.Bool.{cases_lt, cond_both, cond-true, cond-false, lt-ltb, le-ltb}
+use Rattle.std.proofs.lemmas.Bool.{cases_lt, cond-true, cond-false}
 use Rattle.std.proofs.lemmas.Bool.Decides.{nat_tests}
-use Rattle.text.specs.declared.well_formed.Encoding.{Encoding}
 use Rattle.text.specs.declared.well_formed.Encoding.TheVariants.{Utf8}
 use Rattle.text.specs.Names.{starts_name, continues_name, stops_at, name_breach}
 use Rattle.text.specs.Sequence.{breach, code_points}
-use Rattle.text.specs.Wtf8.{WellFormed}
 use Rattle.ecma262.proofs.Utf8.{encode_1, encode_2, encode_3, encode_4}
 use Rattle.text.proofs.Formed.{accepted, read}
 

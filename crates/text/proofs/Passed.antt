@@ -1,5 +1,5 @@
 -- The walk over the bytes of template text finds the breach of its code points.
-use Rattle.std.proofs.Common.{◌≡◌, ℕ, ◌+◌, ◌-◌, ◌*◌, ◌<◌, ◌≤◌, Bool, true, false, cond, ◌&&◌, ◌||◌, eqb, ltb, leb, ◌≢◌, ◌⊎◌, List, [], ◌∷◌, ◌++◌, length, get_or, take, drop, is_some, Some, None, Option, sym, refl, ap, ◌∙◌, subst, inl, inr, ⊎_elim, arith, length-append, length-drop}
+use Rattle.std.proofs.Common.{◌≡◌, ℕ, ◌+◌, ◌-◌, ◌*◌, ◌<◌, ◌≤◌, Bool, true, false, cond, ◌&&◌, eqb, ◌≢◌, ◌⊎◌, List, [], ◌∷◌, ◌++◌, length, get_or, take, drop, is_some, Some, None, Option, sym, refl, ap, ◌∙◌, subst, inl, inr, ⊎_elim, arith, length-append, length-drop}
 use lib.Utf8.{encode, encodes}
 use Rattle.std.specs.Char.{len_utf8}
 use Rattle.std.specs.List.{AllByRecursion}
@@ -8,11 +8,11 @@ use Rattle.std.proofs.lemmas.Bool.{both_ways, cases_Bool, cases_eq, cases_lt, eq
 use Rattle.std.proofs.lemmas.Str.{length-encode, len_utf8_bounds}
 use Rattle.std.proofs.lemmas.Bool.Decides.{nat_tests}
 use Rattle.ecma262.specs.Lookahead.{opens, digit}
-use Rattle.ecma262.specs.Read.{Got, hex_value, bind, is_line_terminator, read_code_point, hex_escape, hex4_digits, unicode_escape, character_escape, escape_sequence, after_line_terminator, behind_backslash}
+use Rattle.ecma262.specs.Read.{hex_value, is_line_terminator, read_code_point, hex_escape, hex4_digits, unicode_escape, character_escape, escape_sequence, after_line_terminator}
 use Rattle.ecma262.specs.Read.Got.{nothing, got}
 use Rattle.ecma262.specs.Template.{bytes, breach_from, template_breach}
 use Rattle.ecma262.specs.Units.{Text, utf16}
-use Rattle.ecma262.proofs.Broken.{breach-end, backtick_here, dollar-here, dollar-behind, backslash-here, backslash-behind, other_behind}
+use Rattle.ecma262.proofs.Broken.{backtick_here, dollar-here, dollar-behind, backslash-here, backslash-behind, other_behind}
 use Rattle.ecma262.proofs.Utf8.{encode_1, Encoded, ascii, wide, encoded, Narrow, same_front, digit_narrow, eqb_narrow, first_test}
 use Rattle.text.specs.declared.well_formed.Encoding.TheVariants.{Utf8}
 use Rattle.text.specs.Sequence.{breach, code_points}

@@ -1,11 +1,11 @@
 -- The rule of names by computation is the relation.
-use Rattle.std.proofs.Common.{◌≡◌, ℕ, ◌+◌, Bool, true, false, cond, List, [], ◌∷◌, ◌++◌, length, Some, None, Option, sym, refl, ap, ◌∙◌, subst, ⊎_elim, arith, length-append}
+use Rattle.std.proofs.Common.{◌≡◌, ℕ, ◌+◌, false, List, [], ◌∷◌, ◌++◌, length, Some, None, sym, refl, ap, ◌∙◌, ⊎_elim, arith, length-append}
 use lib.Utf8.{encode, encodes}
 use Rattle.std.specs.Char.{len_utf8}
 use Rattle.std.proofs.lemmas.Str.{length-encode}
 use Rattle.std.proofs.lemmas.Bool.{cases_Bool, cond-true, cond-false}
 use Rattle.text.specs.Laws.{Named, NamePlaced}
-use Rattle.text.specs.Names.{starts_name, continues_name, stops_at, name_breach, Continues, KeepsRule, IsName, BreaksRule, NameBreach}
+use Rattle.text.specs.Names.{starts_name, continues_name, stops_at, name_breach, Continues, KeepsRule, BreaksRule, NameBreach}
 
 some_none : {X : Type 0} (p : ℕ) → Some p ≡ None → X
 some_none p e = let z : ◌≡◌ {A = ℕ} 0 1 = cc in absurd (omega arith)

@@ -1,16 +1,15 @@
 -- The walk over bytes, sequence by sequence.
-use Rattle.std.proofs.Common.{◌≡◌, ℕ, zero, suc, ◌+◌, ◌-◌, ◌<◌, ◌≤◌, Bool, true, false, cond, ◌&&◌, ◌||◌, eqb, ltb, leb, ◌⊎◌, List, [], ◌∷◌, ◌++◌, length, drop, Some, None, Option, sym, refl, ap, ◌∙◌, subst, inl, inr, ⊎_elim, append_assoc, arith, length-append}
+use Rattle.std.proofs.Common.{◌≡◌, ℕ, zero, suc, ◌+◌, ◌-◌, ◌<◌, ◌≤◌, true, false, ◌&&◌, ◌||◌, eqb, List, [], ◌∷◌, ◌++◌, length, Some, None, Option, sym, refl, ap, ◌∙◌, subst, ⊎_elim, append_assoc, arith, length-append}
 use lib.Utf8.{encode, encodes}
 use Rattle.std.specs.Char.{len_utf8}
-use Rattle.std.proofs.lemmas.List.{drop_at}
-use Rattle.std.proofs.lemmas.Str.{length-encode, len_utf8_bounds, encode_same, encodes_same}
-use Rattle.std.proofs.lemmas.Bool.{both_ways, and_right, cond_both, cond-true, cond-false, or_from, or_left, or_right, or_parts, or_cases, ne_eqb, eq-eqb, eqb-true, eqb-false, cases_Bool, and_from, and_parts}
+use Rattle.std.proofs.lemmas.Str.{length-encode, len_utf8_bounds}
+use Rattle.std.proofs.lemmas.Bool.{both_ways, and_right, cond-true, cond-false, or_from, or_parts, or_cases, ne_eqb, eqb-true, eqb-false, cases_Bool}
 use Rattle.std.proofs.lemmas.Bool.Decides.{nat_tests}
 use Rattle.text.specs.declared.well_formed.Encoding.{Encoding}
 use Rattle.text.specs.declared.well_formed.Encoding.TheVariants.{Wtf8, Utf8}
-use Rattle.text.specs.Wtf8.{Barred, Points, WellFormed, last, Broken, Breach}
-use Rattle.text.specs.Sequence.{is_lead, is_trail, is_surrogate, bars, sequence, walk, breach}
-use Rattle.text.proofs.Codec.{Sound, sequence_sound, sequence-encode}
+use Rattle.text.specs.Wtf8.{Barred, Points, last, Broken}
+use Rattle.text.specs.Sequence.{is_lead, is_trail, is_surrogate, bars, sequence, walk}
+use Rattle.text.proofs.Codec.{sequence_sound, sequence-encode}
 
 by_encoding : (P : Encoding → Type 0) → P Wtf8 → P Utf8 → (e : Encoding) → P e
 by_encoding P w u Wtf8 = w

@@ -5,7 +5,6 @@ use Rattle.refusal.specs.Returned.{returned as returned_by}
 use Rattle.refusal.specs.declared.Refusal.{Refusal}
 use Rattle.refusal.specs.declared.Layer.TheVariants.{Text}
 use Rattle.ecma262.specs.Template.{template_breach}
-use Rattle.text.specs.declared.well_formed.Encoding.{Encoding}
 use Rattle.text.specs.declared.well_formed.Encoding.TheVariants.{Wtf8, Utf8}
 use Rattle.text.specs.declared.fault.TextFault.{TextFault}
 use Rattle.text.specs.declared.fault.TextFault.TheVariants.{TooLong, Malformed, Misflagged, NotName, NotTemplate}

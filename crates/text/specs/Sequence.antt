@@ -1,5 +1,5 @@
 -- The sequence that bytes begin with, the place of the first breach, the surrogate flag and the code points, by computation.
-use Rattle.std.specs.Prelude.{ℕ, zero, suc, ◌+◌, ◌-◌, ◌*◌, ◌%◌, Bool, true, false, cond, ◌&&◌, ◌||◌, List, [], ◌∷◌, ◌++◌, length, Some, None, Option, ◌==◌, nat_le, nat_lt, slice_index}
+use Rattle.std.specs.Prelude.{ℕ, zero, suc, ◌+◌, ◌-◌, ◌*◌, ◌%◌, Bool, false, cond, ◌&&◌, ◌||◌, List, [], ◌∷◌, Some, None, Option, ◌==◌, nat_le, nat_lt, slice_index}
 use Rattle.text.specs.declared.well_formed.Encoding.{Encoding}
 use Rattle.text.specs.declared.well_formed.Encoding.TheVariants.{Wtf8, Utf8}
 

@@ -1,7 +1,7 @@
 use Rattle.std.proofs.Common.{ℕ, ◌+◌, ◌&&◌, ◌||◌, eqb, List, get_or, drop, arith}
 use Rattle.literal.specs.Quotes.{added, taken}
 use Rattle.ecma262.specs.declared.Quote.TheVariants.{Single, Double, Backtick}
-use Rattle.codegen.proofs.Tallies.{More, one_more, chosen_is, tallies}
+use Rattle.codegen.proofs.Tallies.{one_more, chosen_is, tallies}
 use Rattle.codegen.proofs.costs.choose_quote.Goals as goal
 
 pub loop-i-preserved : goal.loop-i-preserved

@@ -1,7 +1,7 @@
-use Rattle.std.proofs.Common.{◌≡◌, ◌+◌, ◌≤◌, length, sym, refl, arith}
+use Rattle.std.proofs.Common.{length, sym, refl, arith}
 use Rattle.std.proofs.lemmas.List.{at_drop_all}
 use Rattle.codegen.specs.Turns.{body}
-use Rattle.codegen.proofs.Moves.{Moved, moved, counts, plain_size, tag_size}
+use Rattle.codegen.proofs.Moves.{moved, counts, plain_size, tag_size}
 use Rattle.codegen.proofs.print.body_size.Goals as goal
 
 pub overflow_add-size : goal.overflow_add-size

@@ -1,4 +1,4 @@
-use Rattle.std.proofs.Common.{length, sym, ap, ◌∙◌, arith}
+use Rattle.std.proofs.Common.{length, ap, arith}
 use Rattle.codegen.specs.Cursor.{settled}
 use Rattle.codegen.specs.Turns.{body}
 use Rattle.codegen.proofs.Bound.{body_bound}

@@ -1,4 +1,4 @@
-use Rattle.std.proofs.Common.{[], ◌∷◌, ◌++◌, ap, ◌∙◌, subst, arith}
+use Rattle.std.proofs.Common.{ap, ◌∙◌, subst, arith}
 use Rattle.ecma262.specs.Units.{mark}
 use Rattle.buffer.specs.Printing.{Appends}
 use Rattle.buffer.proofs.Printing.{appends_join, appended_length}

@@ -1,4 +1,4 @@
-use Rattle.std.proofs.Common.{refl, arith}
+use Rattle.std.proofs.Common.{refl}
 use Rattle.buffer.proofs.Printing.{appends_prints, refused_prints}
 use Rattle.codegen.specs.Cursor.{settled}
 use Rattle.codegen.specs.Strings.{quoted}

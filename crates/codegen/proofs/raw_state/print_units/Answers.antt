@@ -1,4 +1,4 @@
-use Rattle.std.proofs.Common.{◌∷◌, length, sym, ap, subst, arith}
+use Rattle.std.proofs.Common.{length, sym, ap, subst, arith}
 use Rattle.buffer.specs.Printing.{Appends}
 use Rattle.buffer.proofs.Printing.{appends_join, appended_length, prints_with_room}
 use Rattle.literal.specs.Raw.{unit_escapes}

@@ -1,6 +1,6 @@
 use Rattle.std.proofs.Common.{◌&&◌, sym, ap, ◌∙◌, arith}
 use Rattle.std.proofs.lemmas.List.{take_rest}
-use Rattle.std.proofs.lemmas.Bool.{ne_eqb, eq-eqb, and_parts}
+use Rattle.std.proofs.lemmas.Bool.{ne_eqb, and_parts}
 use Rattle.ecma262.specs.Lookahead.{opens}
 use Rattle.literal.specs.Escapes.{tag}
 use Rattle.codegen.proofs.RawArms.{kept, kept_other, tagged, kept_slash, dropped_slash}

@@ -1,4 +1,4 @@
-use Rattle.std.proofs.Common.{sym, ◌∙◌}
+use Rattle.std.proofs.Common.{sym}
 use Rattle.codegen.proofs.RawArms.{not_true, not_false, kept_wide, ended_line, escaped-wide}
 use Rattle.codegen.proofs.raw_turn.wide_turn.Goals as goal
 

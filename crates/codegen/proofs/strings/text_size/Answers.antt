@@ -1,6 +1,4 @@
-use Rattle.std.proofs.Common.{◌≤◌, length, sym, ap, ◌∙◌, subst}
-use Rattle.codegen.specs.Classes.{table_or}
-use Rattle.codegen.specs.Turns.{Fit}
+use Rattle.std.proofs.Common.{◌∙◌}
 use Rattle.codegen.proofs.Texts.{fits_as}
 use Rattle.codegen.proofs.strings.text_size.Goals as goal
 

@@ -1,8 +1,8 @@
-use Rattle.std.proofs.Common.{length, drop, sym, ap, ◌∙◌, arith}
+use Rattle.std.proofs.Common.{sym, ap, ◌∙◌, arith}
 use Rattle.ecma262.specs.Lookahead.{opens}
 use Rattle.literal.specs.Escapes.{script}
 use Rattle.std.proofs.lemmas.List.{take_rest}
-use Rattle.codegen.proofs.Crossing.{tag_short, tag-first, tag_second, tag_third}
+use Rattle.codegen.proofs.Crossing.{tag_short, tag_third}
 use Rattle.codegen.proofs.turn.is_script_close_tag.Goals as goal
 
 pub returns-then-text-lt2 : goal.returns-then-text-lt2

@@ -1,6 +1,5 @@
 use Rattle.std.proofs.lemmas.Slice.Eq.{slice_eq-Decides}
 use Rattle.job.proofs.Texts.{tested}
-use Rattle.job.specs.Lines.{same}
 use Rattle.job.proofs.bytes.is_text.Goals as goal
 use Rattle.std.proofs.lemmas.Bool.Decides.{Decides-eqb}
 

@@ -1,4 +1,4 @@
-use Rattle.std.proofs.Common.{sym, ap, ◌∙◌, arith, rules}
+use Rattle.std.proofs.Common.{sym, ap, arith}
 use Rattle.std.proofs.lemmas.List.{drop_all}
 use Rattle.job.specs.Lines.{before}
 use Rattle.job.proofs.Runs.{run_ends, run_goes_on}

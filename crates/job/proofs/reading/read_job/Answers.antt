@@ -1,4 +1,4 @@
-use Rattle.std.proofs.Common.{◌≡◌, ◌+◌, map, Some, Ok, Err, vec_items, sym, ap, ◌∙◌, subst, rules}
+use Rattle.std.proofs.Common.{◌+◌, map, Some, Ok, Err, vec_items, sym, ap, ◌∙◌, subst, rules}
 use Rattle.job.specs.declared.calls.JobOptions.{JobOptions}
 use Rattle.job.specs.declared.faults.JobError.{JobError}
 use Rattle.job.specs.Calls.{call_at}

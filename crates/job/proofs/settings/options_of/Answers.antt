@@ -1,4 +1,4 @@
-use Rattle.std.proofs.Common.{◌≡◌, ℕ, false, List, sym, ap, ◌∙◌, subst}
+use Rattle.std.proofs.Common.{ℕ, false, List, sym, ap, ◌∙◌, subst}
 use Rattle.std.proofs.lemmas.Result.{err_from_is_err_and}
 use Rattle.job.specs.Lines.{words, trim}
 use Rattle.job.specs.Settings.{with_name, chosen_from, options}

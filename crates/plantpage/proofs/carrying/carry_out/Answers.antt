@@ -1,4 +1,4 @@
-use Rattle.std.proofs.Common.{vec_items, sym, ap, ◌∙◌, arith}
+use Rattle.std.proofs.Common.{vec_items, ap, arith}
 use Rattle.plantpage.specs.Items.{item_of}
 use Rattle.plantpage.proofs.Carried.{longer, carried, holds}
 use Rattle.plantpage.proofs.carrying.carry_out.Goals as goal

@@ -1,6 +1,6 @@
-use Rattle.std.proofs.Common.{[], ◌∷◌, ◌++◌, length, arith, length-append}
+use Rattle.std.proofs.Common.{◌++◌, arith, length-append}
 use Rattle.buffer.proofs.Printing.{refused_prints, prints_with_room, print_prints, prints_after}
-use Rattle.plantpage.specs.Items.{literal_of, comma_and_line_feed, item_of}
+use Rattle.plantpage.specs.Items.{literal_of, comma_and_line_feed}
 use Rattle.plantpage.proofs.items.print_item.Goals as goal
 
 pub returns-then-need-limit : goal.returns-then-need-limit

@@ -1,4 +1,4 @@
-use Rattle.std.proofs.Common.{◌≡◌, ◌≤◌, drop}
+use Rattle.std.proofs.Common.{◌≡◌, drop}
 use Rattle.text.specs.Names.{name_breach}
 use Rattle.text.specs.Sequence.{code_points}
 use Rattle.text.proofs.Named.{byte_stops}

@@ -1,4 +1,4 @@
-use Rattle.std.proofs.Common.{◌-◌, ◌≤◌, length, drop}
+use Rattle.std.proofs.Common.{◌-◌, length, drop}
 use Rattle.ecma262.specs.Template.{template_breach}
 use Rattle.text.specs.Sequence.{code_points}
 use Rattle.text.proofs.Passed.{Stands}

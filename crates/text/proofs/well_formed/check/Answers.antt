@@ -1,5 +1,5 @@
 use Rattle.std.proofs.Common.{sym, ◌∙◌, arith}
-use Rattle.text.proofs.Turn.{Turned, turned, stops, keeps, ended, refused, ascii_keeps}
+use Rattle.text.proofs.Turn.{turned, stops, keeps, ended, refused, ascii_keeps}
 use Rattle.text.proofs.well_formed.check.Goals as goal
 
 pub returns-then-breaks : goal.returns-then-breaks

@@ -1,4 +1,4 @@
-use Rattle.std.proofs.Common.{◌≡◌, ◌+◌, ◌≤◌, min, length, sym, ap, ◌∙◌, arith, length-append}
+use Rattle.std.proofs.Common.{◌≡◌, ◌+◌, min, length, sym, ap, ◌∙◌, arith, length-append}
 use Rattle.buffer.specs.Tally.{tally, tally_of}
 use Rattle.buffer.proofs.Answered.{printed-fits, accepted-fits, ok_fits}
 use Rattle.buffer.proofs.line_watch.LineWatchCodeBuffer.print.Goals as goal

@@ -1,4 +1,3 @@
-use Rattle.std.proofs.Common.{arith}
 use Rattle.buffer.proofs.Printing.{appends_join}
 use Rattle.codegen.specs.RawTurns.{raw_text}
 use Rattle.codegen.proofs.Cursor.{room_behind}

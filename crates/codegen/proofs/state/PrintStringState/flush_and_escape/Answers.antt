@@ -1,4 +1,4 @@
-use Rattle.std.proofs.Common.{◌+◌, ◌∷◌, ◌++◌, ap, arith, length-append}
+use Rattle.std.proofs.Common.{◌∷◌, ap, arith, length-append}
 use Rattle.std.specs.List.{between}
 use Rattle.literal.specs.Escapes.{behind}
 use Rattle.buffer.proofs.Printing.{appends_join, prints_with_room}

@@ -1,4 +1,4 @@
-use Rattle.std.proofs.Common.{◌+◌, [], ◌∷◌, ◌++◌, ap, arith, length-append}
+use Rattle.std.proofs.Common.{◌+◌, [], ◌∷◌, ap, arith, length-append}
 use Rattle.std.specs.List.{between}
 use Rattle.buffer.proofs.Printing.{appends_join}
 use Rattle.codegen.specs.Cursor.{opening, quote_of, start_chunk, consume}
