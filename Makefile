@@ -5,26 +5,25 @@
 #          WORDS=bench times both, WORDS='record FILE' records a sample of the crate's answers
 .PHONY: run test c-example compare
 
-PLANTPAGE = target/bin/plantpage
-SAMPLE = crates/plantpage/data/sample.job
+SAMPLE = data/sample.job
+LIBRARY = crates/capi/out/libcapi.a
 C_FLAGS = -std=c99 -Wall -Wextra -pedantic -Werror -O2
 C_EXAMPLE = target/c-example
 
 run:
-	rt check plantpage
-	$(PLANTPAGE) $(SAMPLE)
+	cd crates/plantpage && rt run -- $(SAMPLE)
 
 test:
 	.ci/run
 
 c-example:
-	rt staticlib capi
+	cd crates/capi && rt lib
 	mkdir -p $(C_EXAMPLE)
-	gcc $(C_FLAGS) -Iinclude examples/c/print.c target/staticlib/libcapi.a -o $(C_EXAMPLE)/print
+	gcc $(C_FLAGS) -Iinclude examples/c/print.c $(LIBRARY) -o $(C_EXAMPLE)/print
 	$(C_EXAMPLE)/print | tee $(C_EXAMPLE)/stdout
 	diff examples/c/stdout $(C_EXAMPLE)/stdout
 
 compare:
 	@test -n "$(SRC)" || { echo "make compare SRC=path: name the source folder of oxc_codegen 0.156.0"; exit 2; }
-	rt staticlib capi
+	cd crates/capi && rt lib
 	compare/run "$(SRC)" $(WORDS)
