@@ -1,6 +1,6 @@
 -- What is printed of a text between quotes: a list of rules, of which the first that applies to a character is followed.
 -- Texts are lists of code points.
-use Rattle.std.specs.Prelude.{ℕ, ◌+◌, ◌/◌, ◌%◌, Bool, true, false, cond, not, ◌&&◌, leb, List, [], ◌∷◌, ◌++◌, Some, None, Option, ◌==◌, nat_eq, nat_le, nat_lt}
+use Rattle.std.specs.Prelude.{ℕ, ◌+◌, ◌/◌, ◌%◌, Bool, true, false, cond, not, ◌&&◌, List, [], ◌∷◌, ◌++◌, Some, None, Option, ◌==◌, nat_eq, nat_le, nat_lt}
 use Rattle.ecma262.specs.Units.{mark}
 use Rattle.ecma262.specs.Lookahead.{opens, digit}
 use Rattle.ecma262.specs.declared.Quote.{Quote}
@@ -78,7 +78,7 @@ other_rules ascii before c cs =
     ∷ (nat_eq c 0x1B ⇒ Hex)
     ∷ (nat_eq c 0x5C ⇒ Character 0x5C)
     ∷ (c == 0x2F && before == 0x3C && opens script cs ⇒ Character 0x2F)
-    ∷ (nat_le 0xD800 c && leb c 0xDFFF ⇒ Unicode Lower)
+    ∷ (nat_le 0xD800 c && nat_le c 0xDFFF ⇒ Unicode Lower)
     ∷ (nat_le 0x80 c && nat_le c 0xFFFF && ascii ⇒ Unicode Upper)
     ∷ (nat_le 0x10000 c && ascii ⇒ CodePoint)
     ∷ (nat_eq c 0xA0 ⇒ Hex)

@@ -1,6 +1,6 @@
 -- Raw text as it is printed: template pieces, directives, regular expressions and names, in steps. Texts are lists of code points.
 -- A walk carries whether an odd run of backslashes stands before (odd), so that the last of them is not escaped itself.
-use Rattle.std.specs.Prelude.{ℕ, Bool, true, false, cond, not, ◌&&◌, ◌||◌, leb, List, [], ◌∷◌, ◌++◌, ◌==◌, nat_eq, nat_le}
+use Rattle.std.specs.Prelude.{ℕ, Bool, true, false, cond, not, ◌&&◌, ◌||◌, List, [], ◌∷◌, ◌++◌, ◌==◌, nat_eq, nat_le}
 use Rattle.ecma262.specs.Lookahead.{opens}
 use Rattle.ecma262.specs.Units.{utf16}
 use Rattle.literal.specs.Escapes.{behind, script}
@@ -68,7 +68,7 @@ wide_printed mode odd c = cond (is_separator c && odd && continues_lines mode) (
 abbrev pub ascii_only : NonAsciiEscape → Bool → List ℕ → List ℕ
 ascii_only mode odd [] = []
 ascii_only mode odd (c ∷ cs) =
-    cond (odd_behind odd c && opens (leb 0x80 ∷ []) cs && loses_backslash mode) [] (cond (nat_le 0x80 c) (wide_printed mode odd c) (c ∷ []))
+    cond (odd_behind odd c && opens (nat_le 0x80 ∷ []) cs && loses_backslash mode) [] (cond (nat_le 0x80 c) (wide_printed mode odd c) (c ∷ []))
     ++ ascii_only mode (odd_behind odd c) cs
 
 -- The third step: </script in any case of its letters becomes <\/script; before is the character in front.

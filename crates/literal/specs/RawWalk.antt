@@ -1,5 +1,5 @@
 -- Raw text printed in one walk, with all the steps of specs/Raw that its flags ask for.
-use Rattle.std.specs.Prelude.{ℕ, Bool, cond, ◌&&◌, ◌||◌, leb, List, [], ◌∷◌, ◌++◌, ◌==◌, nat_le}
+use Rattle.std.specs.Prelude.{ℕ, Bool, cond, ◌&&◌, ◌||◌, List, [], ◌∷◌, ◌++◌, ◌==◌, nat_le}
 use Rattle.ecma262.specs.Lookahead.{opens}
 use Rattle.literal.specs.Escapes.{script}
 use Rattle.literal.specs.Raw.{odd_behind, bare_dollar, loses_backslash, wide_printed}
@@ -7,7 +7,7 @@ use Rattle.literal.specs.declared.NonAsciiEscape.{NonAsciiEscape}
 
 -- a backslash goes, if it is the last of an odd run: under dollars before $ without {, under ascii before a character above 7F
 abbrev pub backslash_goes : Bool → Bool → NonAsciiEscape → List ℕ → Bool
-backslash_goes dollars ascii mode cs = bare_dollar cs && dollars || opens (leb 0x80 ∷ []) cs && loses_backslash mode && ascii
+backslash_goes dollars ascii mode cs = bare_dollar cs && dollars || opens (nat_le 0x80 ∷ []) cs && loses_backslash mode && ascii
 
 -- what is printed of the character c between the character before and the text cs; odd says whether an odd run of backslashes ends at
 -- before
