@@ -7,9 +7,8 @@ ghost use Rattle.buffer.specs.Printing.{Appends};
 ghost use Rattle.codegen.specs.RawTurns.{raw_text, raw_takes, RawTurned};
 ghost use Rattle.codegen.specs.RawCursor.{raw_ahead, raw_pending, raw_move, raw_move_on, RawReady, RawAdvanced};
 
-use crate::escape_sequence::print_escape;
 use crate::raw_turn::{RawStyle, RawTurn, raw_turn};
-use crate::state::print_with_room;
+use crate::state::{print_escape, print_with_room};
 use buffer::CodeBuffer;
 use literal::{EscapeSequence, HexCase, NonAsciiEscape};
 
@@ -39,11 +38,11 @@ fn print_units<B: CodeBuffer>(code: &mut B, c: u32)
 {
     let unit = EscapeSequence::Unicode(HexCase::Upper);
     if c < 0x10000 {
-        let _ = print_escape(code, c, unit);
+        print_escape(code, c, unit);
     } else {
         let rest = c - 0x10000;
-        let _ = print_escape(code, 0xD800 + rest / 0x400, unit);
-        let _ = print_escape(code, 0xDC00 + rest % 0x400, unit);
+        print_escape(code, 0xD800 + rest / 0x400, unit);
+        print_escape(code, 0xDC00 + rest % 0x400, unit);
     }
 }
 
@@ -57,7 +56,7 @@ fn print_wide<B: CodeBuffer>(code: &mut B, mode: NonAsciiEscape, c: u32)
             print_units(code, c);
         }
         NonAsciiEscape::Identifier | NonAsciiEscape::TemplateRaw | NonAsciiEscape::Directive => {
-            let _ = print_escape(code, c, wide_sequence(c));
+            print_escape(code, c, wide_sequence(c));
         }
     }
 }

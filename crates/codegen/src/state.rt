@@ -10,7 +10,7 @@ ghost use Rattle.codegen.specs.Classes.{table_of};
 ghost use Rattle.codegen.specs.Turns.{decides_at};
 
 use crate::costs::choose_quote;
-use crate::escape_sequence::print_escape;
+use crate::escape_sequence;
 use crate::turn::{Escaping, Turn, next_turn, quote_byte, quote_decides};
 use buffer::CodeBuffer;
 use ecma262::Quote;
@@ -32,6 +32,14 @@ pub fn print_with_room<B: CodeBuffer>(code: &mut B, text: &[u8])
     ensures { Appends B.CodeBuffer code.old code.new text.now }
 {
     let _ = code.print(text);
+}
+
+/// Prints an escape of c that there is room for.
+pub fn print_escape<B: CodeBuffer>(code: &mut B, c: u32, e: EscapeSequence)
+    requires room { length (B.CodeBuffer.bytes code.old) + length (0x5C ∷ behind c e) ≤ B.CodeBuffer.limit_of code.old }
+    ensures { Appends B.CodeBuffer code.old code.new (0x5C ∷ behind c e) }
+{
+    let _ = escape_sequence::print_escape(code, c, e);
 }
 
 impl<'s> PrintStringState<'s> {
@@ -81,7 +89,7 @@ impl<'s> PrintStringState<'s> {
         ensures appends { Appends B.CodeBuffer code.old code.new ((opening self.old.quote (quote_of self.old) ++ between self.old.chunk_start self.old.at self.old.bytes.now) ++ (0x5C ∷ behind c e)) }
     {
         self.flush(code);
-        let _ = print_escape(code, c, e);
+        print_escape(code, c, e);
         self.at += n;
         self.chunk_start = self.at;
     }
