@@ -1,6 +1,6 @@
 //! String, piece, directive, pattern and name printing for C, on numbers and bytes. The header is include/jslit.h.
 //!
-//! Each function checks the bytes that it is given, in the order 1 to 5, and prints into the caller's bytes `out`: the printed
+//! Each function checks the bytes that it is given, for 1 to 5 in turn, and prints into the caller's bytes `out`: the printed
 //! bytes stand at its front, and nothing beyond them is touched; a refusal touches nothing at all. The answer is the returned number
 //! times 4,294,967,296, plus the place, the need or the printed length, else 0. A flag is set unless it is 0. Nothing is asked of
 //! the caller but what C's types leave unsaid: that the bytes are there, and that `out` overlaps none that are read.
