@@ -118,6 +118,11 @@ def is_ghost(line):
     return re.match(r"\s*(ghost|requires|ensures)\b", line) is not None
 
 
+def respell_clause(line, found):
+    line = respell_text(line, found)
+    return each_once(line) if is_use(line) else line
+
+
 def respell_page(line, found):
     return re.sub(r"`[^`]*`", lambda m: respell_text(m.group(0), found), line)
 
@@ -155,8 +160,9 @@ def main():
     for path in antt_files():
         rewrite(path, by_lines(lambda line: respell_antt(line, found)))
         rewrite(path, lambda text: respell_library(text, path))
+    in_clauses = found | {"leb": "nat_le"}
     for path in glob.glob("crates/*/src/**/*.rt", recursive=True):
-        rewrite(path, by_lines(lambda line: respell_text(line, found) if is_ghost(line) else line))
+        rewrite(path, by_lines(lambda line: respell_clause(line, in_clauses) if is_ghost(line) else line))
     for path in ["README.md"] + glob.glob("docs/*.md"):
         rewrite(path, by_lines(lambda line: respell_page(line, found)))
 

@@ -1,5 +1,5 @@
 //! Which quotes give the shortest literal.
-ghost use Rattle.std.specs.Prelude.{◌≡◌, ℕ, ◌+◌, ◌<◌, ◌≤◌, ◌&&◌, ◌||◌, leb, length, if◌then◌else◌, ◌==◌, nat_eq, nat_le};
+ghost use Rattle.std.specs.Prelude.{◌≡◌, ℕ, ◌+◌, ◌<◌, ◌≤◌, ◌&&◌, ◌||◌, length, if◌then◌else◌, ◌==◌, nat_le};
 ghost use Rattle.std.proofs.Math.Utf8.{encodes};
 ghost use Rattle.ecma262.specs.declared.Quote.TheVariants.{Single, Double, Backtick};
 ghost use Rattle.literal.specs.Quotes.{chosen};
@@ -21,10 +21,10 @@ struct Costs {
 // The costs with one more byte, before the byte next.
 fn with_byte(costs: Costs, b: u8, next: u32) -> Costs
     requires { (costs.single < 65536) × (costs.double < 65536) × (costs.backtick < 65536) × (costs.lines < 65536) }
-    ensures single { result.single ≡ costs.single + (if nat_eq b 0x27 then 1 else 0) }
-    ensures double { result.double ≡ costs.double + (if nat_eq b 0x22 then 1 else 0) }
-    ensures backtick { result.backtick ≡ costs.backtick + (if nat_eq b 0x60 || b == 0x24 && next == 0x7B then 1 else 0) }
-    ensures lines { result.lines ≡ costs.lines + (if nat_eq b 0x0A then 1 else 0) }
+    ensures single { result.single ≡ costs.single + (if b == 0x27 then 1 else 0) }
+    ensures double { result.double ≡ costs.double + (if b == 0x22 then 1 else 0) }
+    ensures backtick { result.backtick ≡ costs.backtick + (if b == 0x60 || b == 0x24 && next == 0x7B then 1 else 0) }
+    ensures lines { result.lines ≡ costs.lines + (if b == 0x0A then 1 else 0) }
 {
     let mut costs = costs;
     match b {
@@ -53,7 +53,7 @@ fn with_byte(costs: Costs, b: u8, next: u32) -> Costs
 // The cheapest permitted quote; at a tie the backtick, then the double quote.
 fn cheapest(costs: Costs, allow_backtick: bool) -> Quote
     requires { (costs.single < 65536) × (costs.double < 65536) × (costs.backtick < 65536) × (costs.lines < 65536) }
-    ensures { result ≡ (if allow_backtick && nat_le costs.backtick ((if leb costs.double costs.single then costs.double else costs.single) + costs.lines) then Backtick else (if leb costs.double costs.single then Double else Single)) }
+    ensures { result ≡ (if allow_backtick && nat_le costs.backtick ((if nat_le costs.double costs.single then costs.double else costs.single) + costs.lines) then Backtick else (if nat_le costs.double costs.single then Double else Single)) }
 {
     if costs.double <= costs.single {
         if allow_backtick && costs.backtick <= costs.double + costs.lines {

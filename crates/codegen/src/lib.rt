@@ -35,7 +35,6 @@ mod state;
 pub mod strings;
 mod turn;
 
-pub use escape_sequence::print_escape;
 pub use fault::PrintFault;
 pub use options::CodegenOptions;
 pub use raw::{

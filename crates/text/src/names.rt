@@ -73,7 +73,7 @@ pub fn check_name(bytes: &[u8]) -> Result<(), TextFault>
 #[derive(Drop)]
 pub struct Name {
     bytes: Vec<u8>,
-    ghost good: { (name_answer (bytes.items)).number ≡ 0 },
+    ghost good: { (name_answer bytes.items).number ≡ 0 },
 }
 
 impl Name {

@@ -25,7 +25,7 @@ pub fn check_raw_text(bytes: &[u8]) -> Result<(), TextFault>
 #[derive(Drop)]
 pub struct RawText {
     bytes: Vec<u8>,
-    ghost good: { (raw_answer (bytes.items)).number ≡ 0 },
+    ghost good: { (raw_answer bytes.items).number ≡ 0 },
 }
 
 impl RawText {

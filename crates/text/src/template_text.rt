@@ -50,7 +50,7 @@ pub fn check_template_text(bytes: &[u8]) -> Result<(), TextFault>
 #[derive(Drop)]
 pub struct TemplateText {
     bytes: Vec<u8>,
-    ghost good: { (template_answer (bytes.items)).number ≡ 0 },
+    ghost good: { (template_answer bytes.items).number ≡ 0 },
 }
 
 impl TemplateText {
