@@ -44,8 +44,8 @@ pub fn print_template_quasi_raw<B: CodeBuffer>(
     ensures it_never_closes_a_script { Tagless (piece_bytes options.minify options.ascii_only raw.now.bytes.items) }
     ensures it_is_ascii_under_ascii_only { Ascii options.ascii_only (piece_bytes options.minify options.ascii_only raw.now.bytes.items) }
 {
-    let style = style_of(RawKind::Piece, options.minify, options.ascii_only);
-    print_raw(code, style, raw.as_bytes())
+    let piece = style_of(RawKind::Piece, options.minify, options.ascii_only);
+    print_raw(code, piece, raw.as_bytes())
 }
 
 /// Prints raw text as a piece of a tagged template, whole or not at all: only `</script` is broken.

@@ -20,7 +20,7 @@ returns g c =
     record {
       prints_the_piece_whole_or_not_at_all =
           subst (λ s. Prints g.B.CodeBuffer c.args.code.now c.print_raw.new.code s c.print_raw.result)
-          (ap (λ style. body_in style false shown) c.style_of-style.ensures ∙ kind_is Piece o.minify o.ascii_only bytes shown c.as_bytes.ensures.are_the_template_texts)
+          (ap (λ style. body_in style false shown) c.style_of-piece.ensures ∙ kind_is Piece o.minify o.ascii_only bytes shown c.as_bytes.ensures.are_the_template_texts)
           c.print_raw.ensures.prints;
       it_keeps_its_value = piece-value o.minify o.ascii_only bytes t.good;
       it_never_closes_a_script = piece_no_tag o.minify o.ascii_only bytes;
