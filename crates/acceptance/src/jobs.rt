@@ -1,15 +1,16 @@
 //! Examples of jobs: one line of a table each.
-use job::{CallKind, Expected, JobError, JobFault, JobOptions, holds_surrogate, read_job};
+use job::{CallKind, Expected, JobError, JobFault, holds_surrogate, read_job};
+use options::CodegenOptions;
 use std::alloc::Global;
 use std::process::Abort;
 use std::test::Fail;
 
-const SINGLE: JobOptions = JobOptions {
+const SINGLE: CodegenOptions = CodegenOptions {
     single_quote: true,
-    ..JobOptions::NONE
+    ..CodegenOptions::NONE
 };
 
-const ALL: JobOptions = JobOptions {
+const ALL: CodegenOptions = CodegenOptions {
     single_quote: true,
     minify: true,
     ascii_only: true,
@@ -40,7 +41,7 @@ fn settles(
     rt: &impl Abort,
     heap: Global,
     text: &[u8],
-    options: JobOptions,
+    options: CodegenOptions,
     limit: Option<usize>,
     calls: usize,
 ) -> Result<(), Fail> {
@@ -137,10 +138,10 @@ fn texts_in_hex(rt: HostRuntime) -> Result<(), Fail> {
 
 #[test]
 fn settings(rt: HostRuntime) -> Result<(), Fail> {
-    let table: [(&[u8], JobOptions, Option<usize>, usize); 5] = [
-        (b"", JobOptions::NONE, None, 0),
-        (b"\n  # none\n\t\n#", JobOptions::NONE, None, 0),
-        (b"options\nlimit 0", JobOptions::NONE, Some(0), 0),
+    let table: [(&[u8], CodegenOptions, Option<usize>, usize); 5] = [
+        (b"", CodegenOptions::NONE, None, 0),
+        (b"\n  # none\n\t\n#", CodegenOptions::NONE, None, 0),
+        (b"options\nlimit 0", CodegenOptions::NONE, Some(0), 0),
         (
             b"limit  0065536 \noptions single_quote\nstring a\nstring b",
             SINGLE,

@@ -3,6 +3,7 @@ use buffer::{CodeBuffer, SliceBuffer};
 use codegen::{
     CodegenOptions, print_directive_raw, print_name, print_regex_pattern, print_tagged_quasi_raw,
 };
+use refusal::Refusal;
 use std::test::Fail;
 use text::{Name, RawText};
 
@@ -33,7 +34,7 @@ fn print_in(out: &mut [u8], kind: Kind, raw: &RawText) -> Result<usize, usize> {
     let held = code.finish();
     match answer {
         Ok(()) => Ok(held),
-        Err(fault) => Err(fault.refusal().value),
+        Err(fault) => Err(Refusal::from(fault).amount()),
     }
 }
 

@@ -1,8 +1,9 @@
 //! The worked examples, the limits, and refusals that touch nothing.
-use buffer::{CodeBuffer, SliceBuffer};
-use codegen::{CodegenOptions, print_string, print_string_literal_as_template};
+use buffer::{BufferFault, CodeBuffer, SliceBuffer};
+use codegen::{CodegenOptions, PrintFault, print_string, print_string_literal_as_template};
+use refusal::Refusal;
 use std::test::Fail;
-use text::{JSStr, Name, RawText, TemplateText, check_template_text};
+use text::{JSStr, Name, RawText, TemplateText, TextFault, check_template_text};
 
 const MAX_TEXT: usize = 16384;
 
@@ -50,7 +51,7 @@ fn print_in(out: &mut [u8], style: Style, text: &JSStr) -> Result<usize, usize> 
     let held = code.finish();
     match answer {
         Ok(()) => Ok(held),
-        Err(fault) => Err(fault.refusal().value),
+        Err(fault) => Err(Refusal::from(fault).amount()),
     }
 }
 
@@ -111,8 +112,8 @@ fn texts_are_refused_by_number_and_place(rt: HostRuntime) -> Result<(), Fail> {
         match JSStr::new(Vec::from_slice(heap, bytes)?, lone) {
             Ok(_) => return Err(Fail::new("made")),
             Err(fault) => {
-                let refusal = fault.refusal();
-                assert_eq!(rt; (refusal.number, refusal.value), (number, place));
+                let refusal = Refusal::from(fault);
+                assert_eq!(rt; (refusal.number, refusal.amount()), (number, place));
             }
         }
     }
@@ -134,12 +135,25 @@ fn names_are_refused_by_number_and_place(rt: HostRuntime) -> Result<(), Fail> {
         let answer = match Name::new(Vec::from_slice(heap, bytes)?) {
             Ok(_) => (0, 0),
             Err(fault) => {
-                let refusal = fault.refusal();
-                (refusal.number, refusal.value)
+                let refusal = Refusal::from(fault);
+                (refusal.number, refusal.amount())
             }
         };
         assert_eq!(rt; answer, (number, place));
     }
+    Ok(())
+}
+
+#[test]
+fn refusals_are_told(rt: HostRuntime) -> Result<(), Fail> {
+    let place = Refusal::from(TextFault::Malformed(3));
+    let flag = Refusal::from(TextFault::Misflagged);
+    let need = Refusal::from(PrintFault::Buffer(BufferFault::Full(120)));
+    let told = format!(in rt.alloc(); "{place}; {flag}; {need}")?;
+    assert_eq!(rt;
+        told.as_str(),
+        "2 text, place 3; 3 text; 7 buffer, need 120"
+    );
     Ok(())
 }
 
@@ -169,8 +183,8 @@ fn template_text_is_refused_by_number_and_place(rt: HostRuntime) {
         let answer = match check_template_text(bytes) {
             Ok(()) => (0, 0),
             Err(fault) => {
-                let refusal = fault.refusal();
-                (refusal.number, refusal.value)
+                let refusal = Refusal::from(fault);
+                (refusal.number, refusal.amount())
             }
         };
         assert_eq!(rt; answer, (number, place));

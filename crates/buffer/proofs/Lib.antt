@@ -1,4 +1,2 @@
-pub mod Answered
-pub mod Pasted
 pub mod Printing
 pub mod Tallies

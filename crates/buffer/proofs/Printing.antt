@@ -1,18 +1,16 @@
 -- How prints and appends are made, joined and told apart, over any code buffer.
-use Rattle.std.proofs.Common.{◌≡◌, ℕ, ◌+◌, ◌-◌, ◌<◌, ◌≤◌, List, [], ◌++◌, length, drop, Ok, Err, Result, sym, refl, ap, ◌∙◌, subst, append_assoc, append-nil, arith, length-append}
+use Rattle.std.proofs.Common.{◌≡◌, ℕ, ◌+◌, ◌-◌, ◌<◌, ◌≤◌, List, [], ◌++◌, length, drop, Ok, Err, Result, sym, refl, ap, ◌∙◌, ⊎_elim, append_assoc, append-nil, arith, length-append}
+use Rattle.std.proofs.lemmas.Bool.{le-leb, lt-leb, cases_lt}
 use Rattle.std.proofs.lemmas.List.{drop-drop}
 use Rattle.buffer.specs.declared.code_buffer.BufferFault.{BufferFault}
 use Rattle.buffer.specs.declared.code_buffer.BufferFault.TheVariants.{Full}
 use Rattle.buffer.specs.declared.code_buffer.CodeBuffer.{Ghosts}
 use Rattle.buffer.specs.Meaning.{print_answer, printed, accepted}
 use Rattle.buffer.specs.Printing.{Prints, Appends}
-use Rattle.buffer.proofs.Answered.{answer-fits, printed-fits, accepted-fits, answer_past, printed_past, accepted_past, ok_fits}
 
 -- what is equal from a place on is equal from a later place on
-pub same_further : (n k : ℕ) (xs ys : List ℕ) → n ≤ k → drop n xs ≡ drop n ys → drop k xs ≡ drop k ys
-same_further n k xs ys le same =
-    let k-is : n + (k - n) ≡ k = omega arith in
-    subst (λ j. drop j xs ≡ drop j ys) k-is (sym (drop-drop (k - n) n xs) ∙ ap (drop (k - n)) same ∙ drop-drop (k - n) n ys)
+same_further : (n k : ℕ) (xs ys : List ℕ) → n ≤ k → drop n xs ≡ drop n ys → drop k xs ≡ drop k ys
+same_further n k xs ys le same = let both = ap (drop (k - n)) same in grind (arith, drop-drop)
 
 module _ {S : Type 0} (m : Ghosts S) where
   -- what the trait's own print ensures, as one record
@@ -46,61 +44,64 @@ module _ {S : Type 0} (m : Ghosts S) where
     noted = m.notes.nothing b;
   }
 
-  pub refused_notes : (b : S) (text : List ℕ) → m.limit_of b < length (m.bytes b) + length text → m.noted b b (accepted (m.bytes b) (m.limit_of b) text)
-  refused_notes b text past = subst (m.noted b b) (sym (accepted_past (m.bytes b) (m.limit_of b) text past)) (m.notes.nothing b)
-
   pub refused_prints : (b : S) (text : List ℕ) (need : ℕ) → need ≡ length (m.bytes b) + length text → m.limit_of b < need
       → Prints m b b text (Err (Full need))
   refused_prints b text need is past =
-      let too_long : m.limit_of b < length (m.bytes b) + length text = omega arith in
+      let full = lt-leb (length (m.bytes b) + length text) (m.limit_of b) (omega arith) in
       record {
-        answers = ap (λ n. Err (Full n)) is ∙ sym (answer_past (m.bytes b) (m.limit_of b) text too_long);
-        appends = sym (printed_past (m.bytes b) (m.limit_of b) text too_long);
+        answers = rw full (ap (λ n. Err (Full n)) is);
+        appends = rw full refl;
         limit_stays = refl;
         beyond_untouched = refl;
         home_stays = refl;
-        noted = refused_notes b text too_long;
+        noted = rw full (m.notes.nothing b);
       }
 
   -- a print with room is an append, and the other way round
 
   pub prints_with_room : {a b : S} {text : List ℕ} {answer : Result Unit BufferFault} → Prints m a b text answer
       → length (m.bytes a) + length text ≤ m.limit_of a → Appends m a b text
-  prints_with_room {a} {b} {text} p room = record {
-    appends = p.appends ∙ printed-fits (m.bytes a) (m.limit_of a) text room;
-    limit_stays = p.limit_stays;
-    beyond_untouched = p.beyond_untouched;
-    home_stays = p.home_stays;
-    noted = subst (m.noted a b) (accepted-fits (m.bytes a) (m.limit_of a) text room) p.noted;
-  }
+  prints_with_room {a} {b} {text} p room =
+      let fits = le-leb (length (m.bytes a) + length text) (m.limit_of a) room in
+      record {
+        appends = rw fits at p.appends;
+        limit_stays = p.limit_stays;
+        beyond_untouched = p.beyond_untouched;
+        home_stays = p.home_stays;
+        noted = rw fits at p.noted;
+      }
 
-  pub ok_with_room : {a b : S} {text : List ℕ} {answer : Result Unit BufferFault} → Prints m a b text answer
+  ok_with_room : {a b : S} {text : List ℕ} {answer : Result Unit BufferFault} → Prints m a b text answer
       → length (m.bytes a) + length text ≤ m.limit_of a → answer ≡ Ok tt
-  ok_with_room {a} {b} {text} p room = p.answers ∙ answer-fits (m.bytes a) (m.limit_of a) text room
+  ok_with_room {a} {b} {text} p room = rw (le-leb (length (m.bytes a) + length text) (m.limit_of a) room) at p.answers
 
   pub room_when_ok : {a b : S} {text : List ℕ} {answer : Result Unit BufferFault} → Prints m a b text answer → answer ≡ Ok tt
       → length (m.bytes a) + length text ≤ m.limit_of a
-  room_when_ok {a} {b} {text} p ok = ok_fits (m.bytes a) (m.limit_of a) text (sym ok ∙ p.answers)
+  room_when_ok {a} {b} {text} p ok =
+      ⊎_elim (λ past. absurd (let refused = rw (lt-leb (length (m.bytes a) + length text) (m.limit_of a) past) at p.answers in cc)) (λ room. room) (cases_lt (m.limit_of a) (length (m.bytes a) + length text))
 
   pub appends_prints : {a b : S} {text : List ℕ} {answer : Result Unit BufferFault} → Appends m a b text → answer ≡ Ok tt
       → length (m.bytes a) + length text ≤ m.limit_of a → Prints m a b text answer
-  appends_prints {a} {b} {text} p ok room = record {
-    answers = ok ∙ sym (answer-fits (m.bytes a) (m.limit_of a) text room);
-    appends = p.appends ∙ sym (printed-fits (m.bytes a) (m.limit_of a) text room);
-    limit_stays = p.limit_stays;
-    beyond_untouched = p.beyond_untouched;
-    home_stays = p.home_stays;
-    noted = subst (m.noted a b) (sym (accepted-fits (m.bytes a) (m.limit_of a) text room)) p.noted;
-  }
+  appends_prints {a} {b} {text} p ok room =
+      let fits = le-leb (length (m.bytes a) + length text) (m.limit_of a) room in
+      record {
+        answers = rw fits ok;
+        appends = rw fits p.appends;
+        limit_stays = p.limit_stays;
+        beyond_untouched = p.beyond_untouched;
+        home_stays = p.home_stays;
+        noted = rw fits p.noted;
+      }
 
-  pub prints_nothing : (b : S) → Prints m b b [] (Ok tt)
-  prints_nothing b = appends_prints (appends-nothing b) refl (omega (arith, m.laws.within b))
+  -- how much is held after an append
+  pub appended_length : {a b : S} {s : List ℕ} → Appends m a b s → length (m.bytes b) ≡ length (m.bytes a) + length s
+  appended_length {a} {b} {s} p = ap length p.appends ∙ length-append (m.bytes a) s
 
   -- one after the other
 
   pub appends_join : {a b c : S} {s t : List ℕ} → Appends m a b s → Appends m b c t → Appends m a c (s ++ t)
   appends_join {a} {b} {c} {s} {t} p q =
-      let longer : length (m.bytes c) ≡ length (m.bytes b) + length t = ap length q.appends ∙ length-append (m.bytes b) t in
+      let longer = appended_length q in
       record {
         appends = q.appends ∙ ap (λ l. l ++ t) p.appends ∙ append_assoc (m.bytes a) s t;
         limit_stays = q.limit_stays ∙ p.limit_stays;
@@ -108,10 +109,6 @@ module _ {S : Type 0} (m : Ghosts S) where
         home_stays = q.home_stays ∙ p.home_stays;
         noted = m.notes.joined a b c s t p.noted q.noted;
       }
-
-  -- how much is held after an append
-  pub appended_length : {a b : S} {s : List ℕ} → Appends m a b s → length (m.bytes b) ≡ length (m.bytes a) + length s
-  appended_length {a} {b} {s} p = ap length p.appends ∙ length-append (m.bytes a) s
 
   -- a print after an append, where there is room for both from the start
   pub prints_after : {a b c : S} {s t : List ℕ} {answer : Result Unit BufferFault} → Appends m a b s → Prints m b c t answer

@@ -1,43 +1,43 @@
--- A tally is the plain counts of the text, and goes on over texts one after the other.
-use Rattle.std.proofs.Common.{◌≡◌, ℕ, ◌+◌, true, false, cond, ◌||◌, eqb, List, [], ◌∷◌, length, sym, refl, ◌∙◌, add-zero, zero-add, arith}
-use Rattle.buffer.specs.KindsNote.{tally_join}
-use Rattle.buffer.specs.Tally.{Tally, tally, tally_of, nothing_yet, line_feeds_in, has_line_feed, after_last_line_feed, TallyIsPlainCounts}
+-- A tally grows by one a byte at most, is the plain counts of the text, and goes on over texts one after the other.
+use Rattle.std.proofs.Common.{◌≡◌, ℕ, ◌+◌, ◌-◌, ◌≤◌, not, true, false, cond, eqb, List, [], ◌∷◌, ◌++◌, length, reverse, fold, sym, refl, ap, ◌∙◌, subst, add-zero, zero-add, arith, length-take, length-drop}
+use Rattle.std.specs.List.{prefix_len, suffix_len}
+use Rattle.std.proofs.lemmas.List.{reverse-append, reverse-reverse}
+use Rattle.std.proofs.lemmas.List.Sums.{fold-append, fold_push, sum_by-cons, suffix_len-le-length}
+use Rattle.std.proofs.lemmas.Bool.Decides.{nat_tests}
+use Rattle.buffer.specs.declared.tally.Tally.{Tally}
+use Rattle.buffer.specs.Tally.{tally, stepped, nothing_yet, line_feeds_in, TallyIsPlainCounts}
 
-pub feeds_from : (t : Tally) (text : List ℕ) → (tally t text).line_feeds ≡ t.line_feeds + line_feeds_in text
-feeds_from t [] = sym (add-zero t.line_feeds)
-feeds_from t (b ∷ bs) =
-    elim (eqb b 10) as (λ k. (tally (cond k (tally_of (t.line_feeds + 1) 0) (tally_of t.line_feeds (t.column + 1))) bs).line_feeds ≡ t.line_feeds + (cond k 1 0 + line_feeds_in bs)) [
-      | true ↦ omega (arith, feeds_from (tally_of (t.line_feeds + 1) 0) bs)
-      | false ↦ omega (arith, feeds_from (tally_of t.line_feeds (t.column + 1)) bs)
-    ]
+pub line_feeds_grow : (t : Tally) (text : List ℕ) → (tally t text).line_feeds ≤ t.line_feeds + length text
+line_feeds_grow t [] = omega arith
+line_feeds_grow t (b ∷ bs) = let rest = line_feeds_grow (stepped t b) bs in grind (arith, nat_tests)
 
-all_where_none : (text : List ℕ) → cond (has_line_feed text) (length (after_last_line_feed text)) (0 + length text) ≡ length (after_last_line_feed text)
-all_where_none [] = refl
-all_where_none (b ∷ bs) =
-    elim (has_line_feed (b ∷ bs)) as (λ h. cond h (length (cond h (after_last_line_feed bs) (b ∷ bs))) (0 + length (b ∷ bs)) ≡ length (cond h (after_last_line_feed bs) (b ∷ bs))) [
-      | true ↦ refl
-      | false ↦ zero-add (length (b ∷ bs))
-    ]
+pub column_grows : (t : Tally) (text : List ℕ) → (tally t text).column ≤ t.column + length text
+column_grows t [] = omega arith
+column_grows t (b ∷ bs) = let rest = column_grows (stepped t b) bs in grind (arith, nat_tests)
 
-column_from : (t : Tally) (text : List ℕ) → (tally t text).column ≡ cond (has_line_feed text) (length (after_last_line_feed text)) (t.column + length text)
-column_from t [] = sym (add-zero t.column)
-column_from t (b ∷ bs) =
-    elim (eqb b 10) as (
-    λ k. (tally (cond k (tally_of (t.line_feeds + 1) 0) (tally_of t.line_feeds (t.column + 1))) bs).column
-    ≡ cond (k || has_line_feed bs) (length (cond (k || has_line_feed bs) (after_last_line_feed bs) (b ∷ bs))) (t.column + length (b ∷ bs))
-    ) [
-      | true ↦ column_from (tally_of (t.line_feeds + 1) 0) bs ∙ all_where_none bs
-      | false ↦
-          column_from (tally_of t.line_feeds (t.column + 1)) bs
-          ∙ elim (has_line_feed bs) as (λ h. cond h (length (after_last_line_feed bs)) (t.column + 1 + length bs) ≡ cond h (length (cond h (after_last_line_feed bs) (b ∷ bs))) (t.column + length (b ∷ bs))) [
-            | true ↦ refl
-            | false ↦ omega arith
-          ]
-    ]
+-- for a loop that has counted the first bytes of a text
+pub ruleset growth = (line_feeds_grow, column_grows, length-take)
+
+line_feeds-from : (t : Tally) (text : List ℕ) → (tally t text).line_feeds ≡ t.line_feeds + line_feeds_in text
+line_feeds-from t [] = sym (add-zero t.line_feeds)
+line_feeds-from t (b ∷ bs) =
+    let rest = line_feeds-from (stepped t b) bs in
+    let all = sum_by-cons (λ x. cond (eqb x 10) 1 0) b bs in
+    grind (arith, nat_tests)
+
+-- from the last byte on
+column-backwards : (us : List ℕ) → (tally nothing_yet (reverse us)).column ≡ prefix_len (λ b. not (eqb b 10)) us
+column-backwards [] = refl
+column-backwards (u ∷ us) =
+    ap (λ (r : List ℕ). (tally nothing_yet r).column) (reverse-append (u ∷ []) us)
+    ∙ ap (λ (t : Tally). t.column) (fold_push stepped nothing_yet (reverse us) u)
+    ∙ (let rest = column-backwards us in grind (arith, nat_tests))
 
 pub plain-counts : TallyIsPlainCounts
 plain-counts = record {
-  over_joined_texts = tally_join;
-  line_feeds_are_all = λ text. feeds_from nothing_yet text ∙ zero-add (line_feeds_in text);
-  column_is_since_the_last = λ text. column_from nothing_yet text ∙ all_where_none text;
+  over_joined_texts = λ t first second. sym (fold-append stepped t first second);
+  line_feeds_are_all = λ text. line_feeds-from nothing_yet text ∙ zero-add (line_feeds_in text);
+  column_is_since_the_last = λ text.
+      let backwards = ap (λ (r : List ℕ). (tally nothing_yet r).column) (sym (reverse-reverse text)) ∙ column-backwards (reverse text) in
+      omega (arith, backwards, suffix_len-le-length (λ b. not (eqb b 10)) text, length-drop (length text - suffix_len (λ b. not (eqb b 10)) text) text);
 }

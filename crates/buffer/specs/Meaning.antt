@@ -3,6 +3,10 @@ use Rattle.std.specs.Prelude.{ℕ, ◌+◌, Bool, cond, List, [], ◌++◌, leng
 use Rattle.buffer.specs.declared.code_buffer.BufferFault.{BufferFault}
 use Rattle.buffer.specs.declared.code_buffer.BufferFault.TheVariants.{Full}
 
+-- how many bytes are held after some more, or the fault where that passes the limit
+abbrev pub count_after : ℕ → ℕ → ℕ → Result ℕ BufferFault
+count_after held more limit = cond (nat_le (held + more) limit) (Ok (held + more)) (Err (Full (held + more)))
+
 -- how many bytes would be held after the print
 abbrev pub needed : List ℕ → List ℕ → ℕ
 needed held text = length held + length text

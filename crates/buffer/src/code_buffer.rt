@@ -1,33 +1,31 @@
 //! What every code buffer is, and the one way in which it refuses.
-ghost use Rattle.std.specs.Prelude.{◌≡◌, ℕ, List, length, drop};
+ghost use Rattle.std.specs.Prelude.{◌≡◌, ℕ, ◌+◌, ◌^◌, ◌<◌, List, length, drop};
 ghost use Rattle.std.specs.Borrow.{GName};
 ghost use Rattle.buffer.specs.Faults.{tells};
 ghost use Rattle.buffer.specs.Laws.{Lawful, Noting};
-ghost use Rattle.buffer.specs.Meaning.{print_answer, printed, accepted};
+ghost use Rattle.buffer.specs.Meaning.{count_after, print_answer, printed, accepted};
 
-use refusal::{Layer, Refusal};
+use refusal::{Layer, Refusal, Value};
 
 /// The number of a buffer that is full.
 const BUFFER_FULL: u32 = 7;
 
 /// Why a print was refused.
-#[derive(Clone, Copy, Debug)]
+#[derive(Clone, Copy, Debug, PartialEq)]
 pub enum BufferFault {
     /// The limit is too low: so many bytes would have been held.
     Full(usize),
 }
 
-impl BufferFault {
-    /// What the fault tells.
-    pub fn refusal(self) -> Refusal
-        ensures tells_seven_and_the_need { result ≡ tells self }
-    {
-        match self {
-            BufferFault::Full(need) => Refusal {
-                number: BUFFER_FULL,
-                layer: Layer::Buffer,
-                value: need,
-            },
+impl From<BufferFault> for Refusal {
+    ghost from_gives = { λ fault refusal. refusal ≡ tells fault };
+
+    fn from(fault: BufferFault) -> Refusal {
+        let BufferFault::Full(need) = fault;
+        Refusal {
+            number: BUFFER_FULL,
+            layer: Layer::Buffer,
+            value: Some(Value::Need(need)),
         }
     }
 }
@@ -69,4 +67,16 @@ pub trait CodeBuffer {
         ensures beyond_is_untouched { drop (length (bytes self.new)) (memory self.new) ≡ drop (length (bytes self.new)) (memory self.old) }
         ensures home_stays { home self.new ≡ home self.old }
         ensures notes_what_was_appended { noted self.old self.new (accepted (bytes self.old) (limit_of self.old) text.now) };
+}
+
+/// How many bytes are held after some more, where that is within the limit.
+pub fn held_after(held: usize, more: usize, limit: usize) -> Result<usize, BufferFault>
+    requires { held + more < 2 ^ 64 }
+    ensures counts_or_answers_seven_with_the_need { result ≡ count_after held more limit }
+{
+    let need = held + more;
+    if need > limit {
+        return Err(BufferFault::Full(need));
+    }
+    Ok(need)
 }

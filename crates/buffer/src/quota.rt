@@ -1,64 +1,67 @@
 //! A layer that lowers the limit of the code buffer below it.
-ghost use Rattle.std.specs.Prelude.{◌≡◌, length};
+ghost use Rattle.std.specs.Prelude.{◌≡◌, ◌≤◌, length};
+ghost use Rattle.std.proofs.Common.{le_trans};
 ghost use Rattle.buffer.specs.Kinds.{quota_limit};
-ghost use Rattle.buffer.specs.KindsAreLawful.{quota_lawful};
-ghost use Rattle.buffer.specs.KindsNote.{layer_notes};
 
-use super::code_buffer::{BufferFault, CodeBuffer};
+use super::code_buffer::{BufferFault, CodeBuffer, held_after};
 
-/// Lets the buffer below hold `quota` bytes at most, or what it held already where that is more.
+/// Lets the buffer below hold `limit` bytes at most.
 pub struct Quota<B: CodeBuffer> {
     below: B,
-    quota: usize,
+    limit: usize,
+    ghost held_is_within: { length (B.bytes below) ≤ limit },
+    ghost limit_is_within: { limit ≤ B.limit_of below },
 }
 
+// What is forwarded here is forwarded in `LineWatch` too: a trait of layers would need an accessor with its law in each,
+// and more text than it saves.
 impl<B: CodeBuffer> CodeBuffer for Quota<B> {
     ghost bytes = { λ q. B.CodeBuffer.bytes q.below };
 
-    ghost limit_of = { λ q. quota_limit (length (B.CodeBuffer.bytes q.below)) q.quota (B.CodeBuffer.limit_of q.below) };
+    ghost limit_of = { λ q. q.limit };
 
     ghost memory = { λ q. B.CodeBuffer.memory q.below };
 
     ghost home = { λ q. B.CodeBuffer.home q.below };
 
-    ghost laws = { quota_lawful (λ q. q.below) (λ q. q.quota) B.CodeBuffer.laws };
+    ghost laws = { record { within = λ q. q.held_is_within; bounded = λ q. le_trans q.limit_is_within (B.CodeBuffer.laws.bounded q.below) } };
 
     ghost noted = { λ a b s. B.CodeBuffer.noted a.below b.below s };
 
-    ghost notes = { layer_notes (λ q. q.below) B.CodeBuffer.notes };
+    ghost notes = { record {
+      nothing = λ q. B.CodeBuffer.notes.nothing q.below;
+      joined = λ a b c s t first second. B.CodeBuffer.notes.joined a.below b.below c.below s t first second;
+    } };
 
     fn held(&self) -> usize {
         self.below.held()
     }
 
-    // What is held is never past this, so the limit stays where it was at the start.
     fn limit(&self) -> usize {
-        self.below.held().max(self.quota.min(self.below.limit()))
+        self.limit
     }
 
     fn print(&mut self, text: &[u8]) -> Result<(), BufferFault> {
-        let need = self.held() + text.len();
-        if need > self.limit() {
-            return Err(BufferFault::Full(need));
-        }
+        held_after(self.held(), text.len(), self.limit)?;
         self.below.print(text)
     }
 }
 
 impl<B: CodeBuffer> Quota<B> {
-    /// Lays a quota over this buffer; the limit is fixed here.
+    /// Lays a quota over this buffer; the limit is fixed here, and never below what is held.
     pub fn new(below: B, quota: usize) -> Quota<B>
         ensures holds_the_buffer_as_it_came { result.below ≡ below }
-        ensures fixes_the_limit { quota_limit (length (B.bytes result.below)) result.quota (B.limit_of result.below) ≡ quota_limit (length (B.bytes below)) quota (B.limit_of below) }
+        ensures fixes_the_limit { result.limit ≡ quota_limit (length (B.bytes below)) quota (B.limit_of below) }
     {
-        Quota { below, quota }
+        let limit = below.held().max(quota.min(below.limit()));
+        Quota { below, limit }
     }
 
     /// Gives the buffer back.
     pub fn into_inner(self) -> B
         ensures gives_the_buffer_back { result ≡ self.below }
     {
-        let Quota { below, quota: _ } = self;
+        let Quota { below, limit: _ } = self;
         below
     }
 }

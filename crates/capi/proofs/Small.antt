@@ -1,28 +1,27 @@
 -- The value of an answer is far below 2^32: places are within the text, and what is printed is at most four times as long.
-use Rattle.std.proofs.Common.{◌≡◌, ℕ, ◌≤◌, Bool, false, cond, ltb, List, ◌++◌, length, Some, None, Option, sym, refl, ap, ◌∙◌, arith, length-append}
+use Rattle.std.proofs.Common.{◌≡◌, ℕ, ◌≤◌, Bool, cond, ltb, List, ◌++◌, length, Some, None, Option, sym, refl, ap, ◌∙◌, arith, length-append}
 use lib.Utf8.{encodes}
-use Rattle.std.proofs.lemmas.Bool.{ltb-false, cond_both}
+use Rattle.std.proofs.lemmas.Bool.Decides.{nat_tests}
 use Rattle.std.proofs.lemmas.Str.{encodes-append}
 use Rattle.refusal.specs.Returned.{Returned, answer, done}
 use Rattle.ecma262.specs.Template.{template_breach}
 use Rattle.ecma262.proofs.Broken.{broken_at}
 use Rattle.text.specs.declared.well_formed.Encoding.{Encoding}
 use Rattle.text.specs.declared.well_formed.Encoding.TheVariants.{Wtf8, Utf8}
-use Rattle.text.specs.Answers.{unless, is_same_flag, text_answer, raw_answer, name_answer, template_answer}
+use Rattle.text.specs.Answers.{unless, text_answer, raw_answer, name_answer, template_answer}
 use Rattle.text.specs.Names.{name_breach}
-use Rattle.text.specs.Sequence.{breach, marked, code_points}
+use Rattle.text.specs.Sequence.{breach, code_points}
 use Rattle.text.specs.Wtf8.{WellFormed}
 use Rattle.text.proofs.Formed.{accepted, placed, read}
 use Rattle.text.proofs.Ruled.{name_placed}
-use Rattle.codegen.specs.declared.options.CodegenOptions.{CodegenOptions}
+use Rattle.options.specs.declared.CodegenOptions.{CodegenOptions}
 use Rattle.codegen.specs.Strings.{quote_of_text, literal_bytes}
 use Rattle.codegen.proofs.Bound.{body_bound}
 use Rattle.codegen.proofs.Texts.{text-fits, literal_size_lem}
 use Rattle.codegen.specs.declared.raw_kind.RawKind.{RawKind}
 use Rattle.codegen.specs.declared.raw_kind.RawKind.TheVariants.{Piece, TaggedPiece, Directive, Pattern, Name}
-use Rattle.codegen.specs.RawKinds.{check_of, style_of, printed_of}
-use Rattle.codegen.proofs.RawBound.{raw_bound}
-use Rattle.codegen.proofs.RawKept.{kind_fits, kind_is, formed_points, all-points}
+use Rattle.codegen.specs.RawKinds.{check_of, printed_of}
+use Rattle.codegen.proofs.RawKept.{kind_fits, kind_bound, formed_points, all-points}
 
 -- places
 
@@ -63,14 +62,14 @@ by_option number (Some place) next h k = h place refl
 by_option number None next h k = k refl
 
 limited : (limit : ℕ) (bytes : List ℕ) (next : Returned) → (length bytes ≤ limit → Small next) → Small (cond (ltb limit (length bytes)) (answer 1 0) next)
-limited limit bytes next h = cond_both (ltb limit (length bytes)) (answer 1 0) next Small (λ _. omega arith) (λ f. h (ltb-false limit (length bytes) f))
+limited limit bytes next h = grind (arith, nat_tests, h)
 
 encoded : (encoding : Encoding) (bytes : List ℕ) (next : Returned) → length bytes ≤ 16384 → (WellFormed encoding bytes → Small next) → Small (unless 2 (breach encoding bytes) next)
 encoded encoding bytes next l h = by_option 2 (breach encoding bytes) next (λ place e. omega (arith, breach-small encoding bytes place e)) (λ e. h ((accepted encoding bytes).0 e))
 
 pub text-value : (bytes : List ℕ) (lone : Bool) → Small (text_answer bytes lone)
 text-value bytes lone =
-    limited 16384 bytes _ (λ l. encoded Wtf8 bytes _ l (λ w. cond_both (is_same_flag lone (marked 0 bytes)) done (answer 3 0) Small (λ _. omega arith) (λ _. omega arith)))
+    limited 16384 bytes _ (λ l. encoded Wtf8 bytes _ l (λ w. grind (arith, nat_tests)))
 
 raw-value : (bytes : List ℕ) → Small (raw_answer bytes)
 raw-value bytes = limited 16384 bytes _ (λ l. encoded Utf8 bytes _ l (λ w. omega arith))
@@ -100,9 +99,7 @@ literal_short o allow bytes lone h =
     let q = quote_of_text o allow bytes in
     omega (arith, literal_size_lem q o.ascii_only bytes, body_bound q o.ascii_only lone bytes f.0, f.1)
 
-pub raw_short : (kind : RawKind) (minify ascii : Bool) (bytes : List ℕ) → (check_of kind bytes).number ≡ 0 → length (printed_of kind minify ascii bytes) ≤ 65538
-raw_short kind minify ascii bytes h =
+pub raw_short : (kind : RawKind) (o : CodegenOptions) (bytes : List ℕ) → (check_of kind bytes).number ≡ 0 → length (printed_of kind o bytes) ≤ 65538
+raw_short kind o bytes h =
     let f = kind_fits kind bytes h in
-    let s = style_of kind minify ascii in
-    let e = ap length (kind_is kind minify ascii bytes bytes refl) in
-    omega (arith, raw_bound s.dollars s.ascii_only s.mode s.tags false bytes f.0, f.1)
+    omega (arith, kind_bound kind o bytes h, f.1)

@@ -1,10 +1,9 @@
 -- What a C function answers, and what the caller's bytes hold then.
-use Rattle.std.specs.Prelude.{ℕ, ◌+◌, ◌*◌, Bool, cond, not, List, ◌++◌, length, drop, Ok, Err, Result, ◌==◌, nat_le}
-use Rattle.refusal.specs.Returned.{Returned, answer, told}
+use Rattle.std.specs.Prelude.{ℕ, ◌+◌, ◌*◌, Bool, cond, not, List, ◌++◌, length, drop, ◌==◌, nat_le}
+use Rattle.refusal.specs.Returned.{Returned, answer}
 use Rattle.buffer.specs.Kinds.{slice_limit}
-use Rattle.codegen.specs.declared.fault.PrintFault.{PrintFault}
-use Rattle.codegen.specs.declared.options.CodegenOptions.{CodegenOptions}
-use Rattle.codegen.specs.Checked.{tells, unless_refused}
+use Rattle.options.specs.declared.CodegenOptions.{CodegenOptions}
+use Rattle.codegen.specs.Checked.{unless_refused}
 use Rattle.codegen.specs.declared.raw_kind.RawKind.{RawKind}
 use Rattle.codegen.specs.declared.raw_kind.RawKind.TheVariants.{Piece, TaggedPiece}
 
@@ -33,8 +32,3 @@ out_after check out text = unless_refused check (cond (fits out text) (text ++ d
 -- both in one number of 64 bits
 abbrev pub packed : Returned → ℕ
 packed r = r.number * 4294967296 + r.value
-
--- a printer's answer, with the printed length where it printed
-abbrev pub answer_with : Result Unit PrintFault → ℕ → Returned
-answer_with (Ok u) printed = answer 0 printed
-answer_with (Err fault) printed = told (tells fault)

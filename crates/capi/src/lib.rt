@@ -21,7 +21,7 @@ use codegen::{CodegenOptions, RawKind, print_raw_bytes, print_string_bytes};
 
 mod answer;
 
-// Whether a flag is set.
+// Whether a flag is set: C passes a flag as a number.
 fn is_set(flag: u32) -> bool
     ensures { result ≡ is_set flag }
 {
@@ -49,14 +49,13 @@ fn piece_kind(tagged: u32) -> RawKind
 }
 
 // Checks and prints raw text of a kind.
-fn print_kind(kind: RawKind, minify: u32, ascii_only: u32, raw: &[u8], out: &mut [u8]) -> u64
-    ensures answers_for_its_kind { result ≡ packed (answer_for (check_of kind raw.now) out.old (printed_of kind (is_set minify) (is_set ascii_only) raw.now)) }
-    ensures prints_at_the_front_or_touches_nothing { out.new ≡ out_after (check_of kind raw.now) out.old (printed_of kind (is_set minify) (is_set ascii_only) raw.now) }
+fn print_kind(kind: RawKind, options: CodegenOptions, raw: &[u8], out: &mut [u8]) -> u64
+    ensures answers_for_its_kind { result ≡ packed (answer_for (check_of kind raw.now) out.old (printed_of kind options raw.now)) }
+    ensures prints_at_the_front_or_touches_nothing { out.new ≡ out_after (check_of kind raw.now) out.old (printed_of kind options raw.now) }
 {
-    let options = options_of(0, minify, ascii_only);
     let mut code = SliceBuffer::new(out);
     let answer = print_raw_bytes(&mut code, options, kind, raw);
-    packed_answer(answer, code.finish())
+    packed_answer(answer.and(Ok(code.finish())))
 }
 
 /// Prints a text as a string literal.
@@ -82,7 +81,7 @@ pub extern "C" fn jslit_print_string(
         is_set(lone),
         is_set(allow_backtick),
     );
-    packed_answer(answer, code.finish())
+    packed_answer(answer.and(Ok(code.finish())))
 }
 
 /// Prints raw text as a piece of a template, tagged or not.
@@ -94,35 +93,40 @@ pub extern "C" fn jslit_print_template_piece(
     ascii_only: u32,
     out: &mut [u8],
 ) -> u64
-    ensures answers_one_two_five_or_seven { result ≡ packed (answer_for (check_of (piece_kind tagged) raw.now) out.old (printed_of (piece_kind tagged) (is_set minify) (is_set ascii_only) raw.now)) }
-    ensures prints_at_the_front_or_touches_nothing { out.new ≡ out_after (check_of (piece_kind tagged) raw.now) out.old (printed_of (piece_kind tagged) (is_set minify) (is_set ascii_only) raw.now) }
+    ensures answers_one_two_five_or_seven { result ≡ packed (answer_for (check_of (piece_kind tagged) raw.now) out.old (printed_of (piece_kind tagged) (options_of 0 minify ascii_only) raw.now)) }
+    ensures prints_at_the_front_or_touches_nothing { out.new ≡ out_after (check_of (piece_kind tagged) raw.now) out.old (printed_of (piece_kind tagged) (options_of 0 minify ascii_only) raw.now) }
 {
-    print_kind(piece_kind(tagged), minify, ascii_only, raw, out)
+    print_kind(
+        piece_kind(tagged),
+        options_of(0, minify, ascii_only),
+        raw,
+        out,
+    )
 }
 
 /// Prints the raw text of a directive.
 #[unsafe(no_mangle)]
 pub extern "C" fn jslit_print_directive(raw: &[u8], ascii_only: u32, out: &mut [u8]) -> u64
-    ensures answers_one_two_or_seven { result ≡ packed (answer_for (check_of Directive raw.now) out.old (printed_of Directive false (is_set ascii_only) raw.now)) }
-    ensures prints_at_the_front_or_touches_nothing { out.new ≡ out_after (check_of Directive raw.now) out.old (printed_of Directive false (is_set ascii_only) raw.now) }
+    ensures answers_one_two_or_seven { result ≡ packed (answer_for (check_of Directive raw.now) out.old (printed_of Directive (options_of 0 0 ascii_only) raw.now)) }
+    ensures prints_at_the_front_or_touches_nothing { out.new ≡ out_after (check_of Directive raw.now) out.old (printed_of Directive (options_of 0 0 ascii_only) raw.now) }
 {
-    print_kind(RawKind::Directive, 0, ascii_only, raw, out)
+    print_kind(RawKind::Directive, options_of(0, 0, ascii_only), raw, out)
 }
 
 /// Prints the pattern of a regular expression.
 #[unsafe(no_mangle)]
 pub extern "C" fn jslit_print_regex_pattern(raw: &[u8], ascii_only: u32, out: &mut [u8]) -> u64
-    ensures answers_one_two_or_seven { result ≡ packed (answer_for (check_of Pattern raw.now) out.old (printed_of Pattern false (is_set ascii_only) raw.now)) }
-    ensures prints_at_the_front_or_touches_nothing { out.new ≡ out_after (check_of Pattern raw.now) out.old (printed_of Pattern false (is_set ascii_only) raw.now) }
+    ensures answers_one_two_or_seven { result ≡ packed (answer_for (check_of Pattern raw.now) out.old (printed_of Pattern (options_of 0 0 ascii_only) raw.now)) }
+    ensures prints_at_the_front_or_touches_nothing { out.new ≡ out_after (check_of Pattern raw.now) out.old (printed_of Pattern (options_of 0 0 ascii_only) raw.now) }
 {
-    print_kind(RawKind::Pattern, 0, ascii_only, raw, out)
+    print_kind(RawKind::Pattern, options_of(0, 0, ascii_only), raw, out)
 }
 
 /// Prints a name.
 #[unsafe(no_mangle)]
 pub extern "C" fn jslit_print_name(name: &[u8], ascii_only: u32, out: &mut [u8]) -> u64
-    ensures answers_one_two_four_or_seven { result ≡ packed (answer_for (check_of Name name.now) out.old (printed_of Name false (is_set ascii_only) name.now)) }
-    ensures prints_at_the_front_or_touches_nothing { out.new ≡ out_after (check_of Name name.now) out.old (printed_of Name false (is_set ascii_only) name.now) }
+    ensures answers_one_two_four_or_seven { result ≡ packed (answer_for (check_of Name name.now) out.old (printed_of Name (options_of 0 0 ascii_only) name.now)) }
+    ensures prints_at_the_front_or_touches_nothing { out.new ≡ out_after (check_of Name name.now) out.old (printed_of Name (options_of 0 0 ascii_only) name.now) }
 {
-    print_kind(RawKind::Name, 0, ascii_only, name, out)
+    print_kind(RawKind::Name, options_of(0, 0, ascii_only), name, out)
 }

@@ -1,5 +1,5 @@
 -- The arms of a turn.
-use Rattle.std.proofs.Common.{◌≡◌, ℕ, ◌+◌, ◌<◌, ◌≤◌, Bool, true, false, cond, eqb, ◌⊎◌, List, [], ◌∷◌, ◌++◌, length, get_or, drop, Some, None, Option, sym, refl, ap, ◌∙◌, subst, ⊎_elim, add-zero, arith, length-drop}
+use Rattle.std.proofs.Common.{◌≡◌, ℕ, ◌+◌, ◌<◌, ◌≤◌, Bool, true, false, cond, eqb, ◌⊎◌, List, [], ◌∷◌, ◌++◌, length, get_or, drop, Some, None, Option, IsSome, sym, refl, ap, ◌∙◌, subst, ⊎_elim, add-zero, arith, length-drop}
 use lib.Utf8.{encode, encodes}
 use Rattle.std.specs.Char.{len_utf8}
 use Rattle.std.specs.List.{AllByRecursion}
@@ -130,23 +130,33 @@ module _ (q : Quote) (ascii lone : Bool) (bytes : List ℕ) (at : ℕ) (h : at <
   tells_of : (k : Escape) → k ≡ class_in ascii lone (get_or bytes at 0) → Tells ascii lone (get_or bytes at 0) k
   tells_of k e = subst (Tells ascii lone (get_or bytes at 0)) (sym e) (told ascii lone (get_or bytes at 0))
 
-  pub plain_arm : (n : ℕ) → n ≡ seq_len (get_or bytes at 0) → No ≡ class_in ascii lone (get_or bytes at 0) → Turned q ascii lone (drop at bytes) (Plain n)
+  -- the first byte tells how many bytes the character has
+  leads : seq_len (get_or bytes at 0) ≡ Some (len_utf8 f.c)
+  leads = wide_len f.c (get_or bytes at 0) lead f.fine.0
+
+  pub is_led : IsSome (seq_len (get_or bytes at 0))
+  is_led = subst IsSome (sym leads) refl
+
+  led : (n : ℕ) → Some n ≡ seq_len (get_or bytes at 0) → n ≡ len_utf8 f.c
+  led n e = let i : Some n ≡ Some (len_utf8 f.c) = e ∙ leads in cc
+
+  plain_arm : (n : ℕ) → Some n ≡ seq_len (get_or bytes at 0) → No ≡ class_in ascii lone (get_or bytes at 0) → Turned q ascii lone (drop at bytes) (Plain n)
   plain_arm n e k =
       let p = plain-rules q ascii lone f.c (get_or bytes at 0) f.cs lead f.fine.1 (tells_of No k) in
-      plain_turn q ascii lone (drop at bytes) f n (e ∙ wide_len f.c (get_or bytes at 0) lead f.fine.0) p.0 (and_left (eqb 0x3C f.c) _ p.1)
+      plain_turn q ascii lone (drop at bytes) f n (led n e) p.0 (and_left (eqb 0x3C f.c) _ p.1)
 
   -- the same tag in the bytes and in the text
   tag_same : opens tag (drop at bytes) ≡ opens tag (f.c ∷ f.cs)
   tag_same = ap (opens tag) f.here ∙ same_front tag tag_narrow (f.c ∷ f.cs)
 
-  pub less_arm : LT ≡ class_in ascii lone (get_or bytes at 0) → opens tag (drop at bytes) ≡ false → Turned q ascii lone (drop at bytes) (Plain 1)
+  less_arm : LT ≡ class_in ascii lone (get_or bytes at 0) → opens tag (drop at bytes) ≡ false → Turned q ascii lone (drop at bytes) (Plain 1)
   less_arm k t =
       let b = tells_of LT k in
       let c : f.c ≡ 0x3C = low f.c (get_or bytes at 0) lead (omega arith) ∙ b in
       plain_turn q ascii lone (drop at bytes) f 1 (sym (len_utf8_ascii f.c (omega arith)))
       (ap (λ x. pick (rules q ascii 0 x f.cs)) c ∙ less_rules q ascii f.cs) (sym tag_same ∙ t)
 
-  pub tag_arm : opens tag (drop at bytes) ≡ true → Turned q ascii lone (drop at bytes) Tag
+  tag_arm : opens tag (drop at bytes) ≡ true → Turned q ascii lone (drop at bytes) Tag
   tag_arm t = go f.cs f.others f.here (and_parts (eqb 0x3C f.c) _ (sym tag_same ∙ t))
     where
       go : (cs : List ℕ) → AllByRecursion (Fine lone) cs → drop at bytes ≡ encode f.c ++ encodes cs → (eqb 0x3C f.c ≡ true) × (opens (eqb 0x2F ∷ script) cs ≡ true) →
@@ -180,10 +190,10 @@ module _ (q : Quote) (ascii lone : Bool) (bytes : List ℕ) (at : ℕ) (h : at <
       not_less : eqb 0x3C f.c ≡ false
       not_less = let z = is_wide in ne_eqb 0x3C f.c (omega arith)
 
-      pub wide_some : (x : EscapeSequence) → Some x ≡ wide_of ascii r.0 → Turned q ascii lone (drop at bytes) (Escaped x r.0 r.1)
+      wide_some : (x : EscapeSequence) → Some x ≡ wide_of ascii r.0 → Turned q ascii lone (drop at bytes) (Escaped x r.0 r.1)
       wide_some x i = escaped_turn q ascii lone (drop at bytes) f x r.0 r.1 c_is n_is (picked (Some x) i) not_less
 
-      pub wide-none : None ≡ wide_of ascii r.0 → Turned q ascii lone (drop at bytes) (Plain r.1)
+      wide-none : None ≡ wide_of ascii r.0 → Turned q ascii lone (drop at bytes) (Plain r.1)
       wide-none i = plain_turn q ascii lone (drop at bytes) f r.1 n_is (picked None i) (and_left (eqb 0x3C f.c) _ not_less)
 
     module _ (w : short k ≡ true) (next : ℕ) (x : next ≡ get_or bytes (at + 1) 0) where
@@ -219,10 +229,10 @@ module _ (q : Quote) (ascii lone : Bool) (bytes : List ℕ) (at : ℕ) (h : at <
       no_less : eqb 0x3C f.c ≡ false
       no_less = ap (eqb 0x3C) b_is ∙ byte.1
 
-      pub short_some : (y : EscapeSequence) → Some y ≡ short_of q k next → Turned q ascii lone (drop at bytes) (Escaped y (get_or bytes at 0) 1)
+      short_some : (y : EscapeSequence) → Some y ≡ short_of q k next → Turned q ascii lone (drop at bytes) (Escaped y (get_or bytes at 0) 1)
       short_some y i = escaped_turn q ascii lone (drop at bytes) f y (get_or bytes at 0) 1 (sym b_is) one_wide (picks (Some y) i) no_less
 
-      pub short_none : None ≡ short_of q k next → Turned q ascii lone (drop at bytes) (Plain 1)
+      short_none : None ≡ short_of q k next → Turned q ascii lone (drop at bytes) (Plain 1)
       short_none i = plain_turn q ascii lone (drop at bytes) f 1 one_wide (picks None i) (and_left (eqb 0x3C f.c) _ no_less)
 
 -- The same turns, for every quote that agrees where the quote decides.
@@ -290,10 +300,10 @@ module _ (q : Quote) (ascii lone : Bool) (bytes : List ℕ) (at : ℕ) (h : at <
       ⊎_elim (λ l. subst (λ c. Neutral c g.cs) (sym (low g.c (get_or bytes at 0) (lead q ascii lone bytes at h fit) l)) (plain_neutral (get_or bytes at 0) g.cs o.sq o.dq o.tick o.dollar o.line))
       (λ l. wide_neutral g.c g.cs (high g.c (get_or bytes at 0) (lead q ascii lone bytes at h fit) l).0) (cases_lt (get_or bytes at 0) 0x80)
 
-  pub decided_plain : (n : ℕ) → n ≡ seq_len (get_or bytes at 0) → No ≡ class_in ascii lone (get_or bytes at 0) → Decided q ascii lone bytes at (Plain n)
+  pub decided_plain : (n : ℕ) → Some n ≡ seq_len (get_or bytes at 0) → No ≡ class_in ascii lone (get_or bytes at 0) → Decided q ascii lone bytes at (Plain n)
   decided_plain n e k = record {
     right = λ p _. plain_arm p ascii lone bytes at h fit n e k;
-    free = λ _ _. free_of n (e ∙ wide_len g.c (get_or bytes at 0) (lead q ascii lone bytes at h fit) g.fine.0) (ordinary_neutral (tells_of q ascii lone bytes at h fit No k));
+    free = λ _ _. free_of n (led q ascii lone bytes at h fit n e) (ordinary_neutral (tells_of q ascii lone bytes at h fit No k));
   }
 
   pub decided_less : LT ≡ class_in ascii lone (get_or bytes at 0) → opens tag (drop at bytes) ≡ false → Decided q ascii lone bytes at (Plain 1)

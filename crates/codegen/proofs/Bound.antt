@@ -1,5 +1,5 @@
 -- Between the quotes a text becomes at most four times as long.
-use Rattle.std.proofs.Common.{◌≡◌, ℕ, ◌*◌, ◌≤◌, Bool, true, false, cond, ltb, List, [], ◌∷◌, ◌++◌, length, Some, None, Option, sym, refl, ap, ◌∙◌, subst, arith, length-append}
+use Rattle.std.proofs.Common.{◌≡◌, ℕ, ◌+◌, ◌*◌, ◌≤◌, Bool, true, false, cond, ltb, List, [], ◌∷◌, ◌++◌, length, Some, None, Option, sym, refl, ap, ◌∙◌, subst, arith, length-append}
 use lib.Utf8.{encode, encodes}
 use Rattle.std.specs.Char.{len_utf8}
 use Rattle.std.proofs.lemmas.List.{append-nil}
@@ -13,8 +13,10 @@ use Rattle.literal.specs.Escapes.{behind, five_digits, first, pick, rules, other
 use Rattle.literal.proofs.Measured.{put, first-put, pick_row, picked_quiet}
 use Rattle.literal.proofs.Rules.{Rows, ◌⊹◌}
 use Rattle.text.specs.Sequence.{code_points}
+use Rattle.codegen.specs.Strings.{quoted}
 use Rattle.codegen.specs.Turns.{Fit, body}
 use Rattle.codegen.proofs.Steps.{encodes-plain, escape-plain}
+use Rattle.codegen.proofs.Texts.{literal_size_lem}
 
 -- the most bytes of an escape
 abbrev longest : EscapeSequence → ℕ
@@ -72,7 +74,7 @@ module _ (q : Quote) (ascii : Bool) (before c : ℕ) (cs : List ℕ) where
       let r = pick_row (λ y. longest y ≤ 4 * len_utf8 c) (rules q ascii before c cs) rows x e in
       omega (arith, escape-length c x)
 
-  pub first_bound : length (encodes (first c (rules q ascii before c cs))) ≤ 4 * len_utf8 c
+  first_bound : length (encodes (first c (rules q ascii before c cs))) ≤ 4 * len_utf8 c
   first_bound = subst (λ s. length (encodes s) ≤ 4 * len_utf8 c) (sym (first-put c (rules q ascii before c cs))) (put_bound (pick (rules q ascii before c cs)) refl)
 
 printed_bound : (q : Quote) (ascii : Bool) (before : ℕ) (cs : List ℕ) → length (encodes (printed q ascii before cs)) ≤ 4 * length (encodes cs)
@@ -88,3 +90,6 @@ printed_bound q ascii before (c ∷ cs) =
 pub body_bound : (q : Quote) (ascii lone : Bool) (s : List ℕ) → Fit lone s → length (body q ascii s) ≤ 4 * length s
 unfolding body
 body_bound q ascii lone s f = let e = ap length f.0 in let b = printed_bound q ascii 0 (code_points s) in omega arith
+
+pub quoted_bound : (q : Quote) (ascii lone : Bool) (s : List ℕ) → Fit lone s → length (quoted q ascii s) ≤ 4 * length s + 2
+quoted_bound q ascii lone s f = let b = body_bound q ascii lone s f in let l = literal_size_lem q ascii s in omega arith

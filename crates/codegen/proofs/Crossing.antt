@@ -1,11 +1,11 @@
 -- Code points and their bytes: what tests that pass ASCII alone see, and the first byte.
-use Rattle.std.proofs.Common.{◌≡◌, ℕ, ◌+◌, ◌/◌, ◌<◌, ◌≤◌, true, false, cond, eqb, ltb, List, [], ◌∷◌, ◌++◌, length, get_or, drop, sym, refl, ap, ◌∙◌, ⊎_elim, arith}
+use Rattle.std.proofs.Common.{◌≡◌, ℕ, ◌+◌, ◌/◌, ◌<◌, ◌≤◌, Bool, true, cond, eqb, ltb, List, [], ◌∷◌, ◌++◌, length, get_or, take, map, Some, refl, ap, ◌∙◌, ⊎_elim, Decides, arith}
 use lib.Utf8.{encode}
-use Rattle.std.specs.Char.{len_utf8}
-use Rattle.std.proofs.lemmas.Bool.{cases_lt, and_left, and_right, ne_eqb}
+use Rattle.std.specs.Char.{len_utf8, to_ascii_lowercase}
+use Rattle.std.proofs.lemmas.Bool.{cases_lt, and_parts, and_from}
 use Rattle.std.proofs.lemmas.Bool.Decides.{nat_tests}
 use Rattle.ecma262.specs.Lookahead.{opens}
-use Rattle.literal.specs.Escapes.{script, tag}
+use Rattle.literal.specs.Escapes.{same_letter, tag}
 use Rattle.text.specs.Sequence.{is_surrogate, seq_len}
 use Rattle.ecma262.proofs.Utf8.{encode_1, encode_2, encode_3, encode_4}
 
@@ -28,7 +28,7 @@ module _ (c b : ℕ) (e : b ≡ lead_byte c) where
   pub high : 0x80 ≤ b → (0x80 ≤ c) × (0xC0 ≤ b)
   high h = grind (arith, nat_tests)
 
-  pub wide_len : c ≤ 0x10FFFF → seq_len b ≡ len_utf8 c
+  pub wide_len : c ≤ 0x10FFFF → seq_len b ≡ Some (len_utf8 c)
   wide_len h = grind (arith, nat_tests)
 
   pub nbsp : c ≡ 0xA0 → b ≡ 0xC2
@@ -43,21 +43,32 @@ module _ (c b : ℕ) (e : b ≡ lead_byte c) where
   pub surrogate : is_surrogate c ≡ true → b ≡ 0xED
   surrogate h = grind (arith, nat_tests)
 
-pub tag_short : (s : List ℕ) → length s < 2 → opens tag s ≡ false
-tag_short [] h = refl
-tag_short (a ∷ []) h = and_right (eqb 0x3C a) false refl
-tag_short (a ∷ b ∷ s) h = absurd (omega arith)
+-- The tests pass the bytes that become these by lower case.
+abbrev Cased : List (ℕ → Bool) → List ℕ → Type 0
+Cased [] [] = Unit {0}
+Cased (p ∷ ps) (w ∷ ws) = ((c : ℕ) → Decides (p c) (to_ascii_lowercase c ≡ w)) × Cased ps ws
+Cased _ _ = ⊥
 
-pub tag-first : (s : List ℕ) → (get_or s 0 0 ≡ 0x3C → ⊥) → opens tag s ≡ false
-tag-first [] n = refl
-tag-first (a ∷ s) n = and_left (eqb 0x3C a) _ (ne_eqb 0x3C a (λ e. n (sym e)))
+opens_cased : (ps : List (ℕ → Bool)) (ws s : List ℕ) → Cased ps ws → length ws ≤ length s → Decides (opens ps s) (map to_ascii_lowercase (take (length ws) s) ≡ ws)
+opens_cased [] [] s t h = (λ _. refl, λ _. refl)
+opens_cased [] (w ∷ ws) s t h = absurd t
+opens_cased (p ∷ ps) [] s t h = absurd t
+opens_cased (p ∷ ps) (w ∷ ws) [] t h = absurd (omega arith)
+opens_cased (p ∷ ps) (w ∷ ws) (c ∷ s) t h =
+    let r = opens_cased ps ws s t.1 (omega arith) in (
+      λ e. let b = and_parts (p c) (opens ps s) e in let x = (t.0 c).0 b.0 in let y = r.0 b.1 in cc,
+      λ e. let x : to_ascii_lowercase c ≡ w = cc in let y : map to_ascii_lowercase (take (length ws) s) ≡ ws = cc in
+          and_from (p c) (opens ps s) ((t.0 c).1 x) (r.1 y),
+    )
 
-pub tag_second : (s : List ℕ) → (get_or s 1 0 ≡ 0x2F → ⊥) → opens tag s ≡ false
-tag_second [] n = refl
-tag_second (a ∷ []) n = and_right (eqb 0x3C a) false refl
-tag_second (a ∷ b ∷ s) n = and_right (eqb 0x3C a) _ (and_left (eqb 0x2F b) _ (ne_eqb 0x2F b (λ e. n (sym e))))
+sign : (w c : ℕ) → w < 0x41 → Decides (eqb w c) (to_ascii_lowercase c ≡ w)
+sign w c h = (λ e. grind (arith, nat_tests), λ e. grind (arith, nat_tests))
 
-pub tag_third : (s : List ℕ) → 2 ≤ length s → get_or s 0 0 ≡ 0x3C → get_or s 1 0 ≡ 0x2F → opens script (drop 2 s) ≡ opens tag s
-tag_third [] h a b = absurd (omega arith)
-tag_third (x ∷ []) h a b = absurd (omega arith)
-tag_third (x ∷ y ∷ s) h a b = rw (a, b) refl
+letter : (w c : ℕ) → Decides (same_letter w c) (to_ascii_lowercase c ≡ w)
+letter w c = (λ e. grind (arith, nat_tests), λ e. grind (arith, nat_tests))
+
+-- </script, by bytes of any case
+pub tag_cased : (s : List ℕ) → 8 ≤ length s → Decides (opens tag s) (map to_ascii_lowercase (take 8 s) ≡ 0x3C ∷ 0x2F ∷ 0x73 ∷ 0x63 ∷ 0x72 ∷ 0x69 ∷ 0x70 ∷ 0x74 ∷ [])
+tag_cased s h =
+    opens_cased tag (0x3C ∷ 0x2F ∷ 0x73 ∷ 0x63 ∷ 0x72 ∷ 0x69 ∷ 0x70 ∷ 0x74 ∷ []) s
+    (λ c. sign 0x3C c (omega arith), (λ c. sign 0x2F c (omega arith), (letter 0x73, (letter 0x63, (letter 0x72, (letter 0x69, (letter 0x70, (letter 0x74, tt)))))))) h

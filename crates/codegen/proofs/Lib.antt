@@ -9,6 +9,7 @@ mod Moves
 pub mod Texts
 pub mod Bound
 pub mod Kept
+mod Fronts
 mod RawSteps
 mod RawArms
 mod RawAdvance

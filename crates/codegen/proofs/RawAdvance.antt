@@ -1,137 +1,92 @@
--- Steps of the raw cursor keep what is pending: what is kept, what is printed in its place; and steps one after the other.
-use Rattle.std.proofs.Common.{◌≡◌, ℕ, ◌+◌, ◌<◌, ◌≤◌, Bool, false, List, [], ◌++◌, length, get_or, take, drop, sym, refl, ap, ◌∙◌, subst, append_assoc, add-zero, arith, length-append, length-drop}
-use Rattle.std.specs.List.{between}
-use Rattle.std.proofs.lemmas.List.{drop-drop, append-nil, at_drop_all, get_or-drop}
-use Rattle.std.proofs.lemmas.List.Edits.{between_none}
+-- Printing raw text turn by turn: what was printed, the chunk that is still to be flushed, and what is ahead.
+use Rattle.std.proofs.Common.{◌≡◌, ℕ, ◌+◌, ◌≤◌, List, [], ◌++◌, length, take, drop, sym, refl, ap, ◌∙◌, subst, append_assoc, arith, length-append, length-drop, take-add}
+use Rattle.std.proofs.lemmas.List.{drop-drop, append-nil}
 use Rattle.literal.specs.declared.NonAsciiEscape.{NonAsciiEscape}
-use Rattle.literal.specs.Raw.{odd_behind}
 use Rattle.buffer.specs.declared.code_buffer.CodeBuffer.{Ghosts}
 use Rattle.buffer.specs.Printing.{Appends}
 use Rattle.buffer.proofs.Printing.{appends_join, appends-nothing, appended_length}
 use Rattle.codegen.specs.declared.raw_state.RawState.{RawState}
-use Rattle.codegen.specs.declared.raw_turn.RawStyle.{RawStyle}
 use Rattle.codegen.specs.declared.raw_turn.RawTurn.{RawTurn}
 use Rattle.codegen.specs.declared.raw_turn.RawTurn.TheVariants.{Keep, Drop, Escaped, LineEnd, Tag}
-use Rattle.codegen.specs.RawTurns.{raw_takes, raw_text, raw_puts, raw_body, odd_after, RawTurned}
-use Rattle.codegen.specs.RawCursor.{raw_ahead, body_in, raw_pending, raw_move, raw_move_on, RawReady, RawAdvanced}
-use Rattle.codegen.specs.Turns.{Fit}
-use Rattle.codegen.proofs.Advance.{between_join}
-
--- the state behind the byte at the cursor
-odd_at : (s : RawState) (o : Bool) → o ≡ odd_behind s.odd (get_or s.bytes.now s.at 0) → o ≡ odd_after s.odd (raw_ahead s)
-odd_at s o e = e ∙ ap (odd_behind s.odd) (sym (get_or-drop s.at s.bytes.now 0 0 ∙ ap (λ n. get_or s.bytes.now n 0) (add-zero s.at)))
-
-pub move_is : (s : RawState) (n : ℕ) (o : Bool) → o ≡ odd_behind s.odd (get_or s.bytes.now s.at 0) →
-    record { bytes = s.bytes; chunk_start = s.chunk_start; at = s.at + n; odd = o } ≡ raw_move n s
-move_is s n o e = ap (λ x. record { bytes = s.bytes; chunk_start = s.chunk_start; at = s.at + n; odd = x }) (odd_at s o e)
-
-pub move_on_is : (s : RawState) (n k : ℕ) (o : Bool) → k ≡ n → o ≡ odd_behind s.odd (get_or s.bytes.now s.at 0) →
-    record { bytes = s.bytes; chunk_start = s.at + k; at = s.at + k; odd = o } ≡ raw_move_on n s
-move_on_is s n k o i e =
-    ap (λ x. record { bytes = s.bytes; chunk_start = s.at + k; at = s.at + k; odd = x }) (odd_at s o e)
-    ∙ ap (λ x. record { bytes = s.bytes; chunk_start = s.at + x; at = s.at + x; odd = odd_after s.odd (raw_ahead s) }) i
-
-module _ {B : Type 0} (m : Ghosts B) (style : RawStyle) where
-  pub joined : {r s t : RawState} {a b c : B} → RawAdvanced m style r s a b → RawAdvanced m style s t b c → RawAdvanced m style r t a c
-  joined {r} {s} {t} p q = record {
-    text = p.text ++ q.text;
-    appends = appends_join m p.appends q.appends;
-    total = append_assoc p.text q.text (raw_pending style t) ∙ ap (λ x. p.text ++ x) q.total ∙ p.total;
-    ready = q.ready;
-    same_text = q.same_text ∙ p.same_text;
-  }
-
-  pub room_kept : {s t : RawState} {a b : B} → RawAdvanced m style s t a b → length (m.bytes a) + length (raw_pending style s) ≤ m.limit_of a →
-      length (m.bytes b) + length (raw_pending style t) ≤ m.limit_of b
-  room_kept {s} {t} p room =
-      let n = appended_length m p.appends in
-      let l = p.appends.limit_stays in
-      let e = sym (length-append p.text (raw_pending style t)) ∙ ap length p.total in
-      omega arith
-
-  pub stays : {s : RawState} {a : B} → RawReady s → RawAdvanced m style s s a a
-  stays {s} {a} r = record { text = []; appends = appends-nothing m a; total = refl; ready = r; same_text = refl }
-
-  module _ (s : RawState) (r : RawTurn) (ready : RawReady s) (inside : s.at < length s.bytes.now)
-      (turn : RawTurned style.dollars style.ascii_only style.mode style.tags s.odd (raw_ahead s) r) where
-    next : drop (raw_takes r) (raw_ahead s) ≡ drop (s.at + raw_takes r) s.bytes.now
-    next = drop-drop (raw_takes r) s.at s.bytes.now
-
-    pub on_within : s.at + raw_takes r ≤ length s.bytes.now
-    on_within = let w = turn.within in let o = inside in omega (arith, length-drop s.at s.bytes.now)
-
-    pub further : s.at < s.at + raw_takes r
-    further = let t = turn.more in omega arith
-
-    next_fit : Fit false (drop (s.at + raw_takes r) s.bytes.now)
-    next_fit = subst (Fit false) next turn.fit
-
-    abbrev rest : List ℕ
-    rest = body_in style (odd_after s.odd (raw_ahead s)) (drop (s.at + raw_takes r) s.bytes.now)
-
-    shown : body_in style s.odd (raw_ahead s) ≡ raw_puts style.mode (raw_ahead s) r ++ rest
-    shown = turn.shown ∙ ap (λ x. raw_puts style.mode (raw_ahead s) r ++ body_in style (odd_after s.odd (raw_ahead s)) x) next
-
-    abbrev chunk : List ℕ
-    chunk = between s.chunk_start s.at s.bytes.now
-
-    pub turn_room : (a : B) → length (m.bytes a) + length (raw_pending style s) ≤ m.limit_of a →
-        length (m.bytes a) + length (between s.chunk_start s.at s.bytes.now) + length (raw_puts style.mode (raw_ahead s) r) ≤ m.limit_of a
-    turn_room a room =
-        let y = length-append chunk (body_in style s.odd (raw_ahead s)) in
-        let z = ap length shown ∙ length-append (raw_puts style.mode (raw_ahead s) r) rest in
-        omega arith
-
-    pub printed_on : {a b : B} (text : List ℕ) → raw_puts style.mode (raw_ahead s) r ≡ text → (t : RawState) → t ≡ raw_move_on (raw_takes r) s →
-        Appends m a b (between s.chunk_start s.at s.bytes.now ++ text) → RawAdvanced m style s t a b
-    printed_on {a} {b} text same t e p =
-        subst (λ x. RawAdvanced m style s x a b) (sym e)
-        (record {
-          text = chunk ++ text;
-          appends = p;
-          total =
-              ap (λ x. (chunk ++ text) ++ (x ++ rest)) (between_none s.bytes.now (s.at + raw_takes r))
-              ∙ append_assoc chunk text rest
-              ∙ ap (λ x. chunk ++ (x ++ rest)) (sym same)
-              ∙ ap (λ x. chunk ++ x) (sym shown);
-          ready = record { order = omega arith; within = on_within; small = ready.small; fit = next_fit };
-          same_text = refl;
-        })
-
-  pub kept_on : (s : RawState) (n : ℕ) → RawReady s → s.at < length s.bytes.now →
-      RawTurned style.dollars style.ascii_only style.mode style.tags s.odd (raw_ahead s) (Keep n) →
-      (t : RawState) → t ≡ raw_move n s → (a : B) → RawAdvanced m style s t a a
-  kept_on s n ready inside turn t e a =
-      subst (λ x. RawAdvanced m style s x a a) (sym e)
-      (record {
-        text = [];
-        appends = appends-nothing m a;
-        total =
-            ap (λ x. x ++ rest s (Keep n) ready inside turn) (between_join s.bytes.now s.chunk_start s.at n ready.order)
-            ∙ append_assoc (between s.chunk_start s.at s.bytes.now) (take n (raw_ahead s)) (rest s (Keep n) ready inside turn)
-            ∙ ap (λ x. between s.chunk_start s.at s.bytes.now ++ x) (sym (shown s (Keep n) ready inside turn));
-        ready = record { order = let o = ready.order in omega arith; within = on_within s (Keep n) ready inside turn; small = ready.small; fit = next_fit s (Keep n) ready inside turn };
-        same_text = refl;
-      })
+use Rattle.codegen.specs.RawTurns.{raw_takes, raw_text, raw_puts}
+use Rattle.codegen.specs.RawCursor.{raw_ahead, RawTaken}
 
 -- a turn that keeps nothing prints its text
-pub puts-text : (mode : NonAsciiEscape) (s : List ℕ) (r : RawTurn) → ((n : ℕ) → r ≡ Keep n → ⊥) → raw_puts mode s r ≡ raw_text mode r
+puts-text : (mode : NonAsciiEscape) (s : List ℕ) (r : RawTurn) → ((n : ℕ) → r ≡ Keep n → ⊥) → raw_puts mode s r ≡ raw_text mode r
 puts-text mode s (Keep n) h = absurd (h n refl)
 puts-text mode s Drop h = refl
 puts-text mode s (Escaped c n) h = refl
 puts-text mode s (LineEnd n) h = refl
 puts-text mode s Tag h = refl
 
--- At the end of the text the chunk is left.
-module _ {B : Type 0} (m : Ghosts B) (style : RawStyle) {r s : RawState} {a b : B} (steps : RawAdvanced m style r s a b) (over : length s.bytes.now ≤ s.at) where
-  at_end : raw_pending style s ≡ between s.chunk_start s.at s.bytes.now
-  unfolding raw_body
-  at_end =
-      ap (λ x. between s.chunk_start s.at s.bytes.now ++ x) (at_drop_all (body_in style s.odd) s.bytes.now s.at over)
-      ∙ append-nil (between s.chunk_start s.at s.bytes.now)
+module _ {B : Type 0} (m : Ghosts B) (code : List ℕ) where
+  -- The code is what was printed, the front of the chunk, and what is printed of what is ahead, which is the rest of the chunk.
+  pub record Printed (chunk : List ℕ) (kept : ℕ) (state : RawState) (entry exit : B) : Type 0 where
+    pub text : List ℕ
+    pub appends : Appends m entry exit text
+    pub total : text ++ (take kept chunk ++ raw_ahead state) ≡ code
+    pub within : kept ≤ length chunk
+    pub rest : state.rest.now ≡ drop kept chunk
+    pub small : length chunk ≤ 16384
 
-  pub last_room : length (m.bytes a) + length (raw_pending style r) ≤ m.limit_of a → length (m.bytes b) + length (between s.chunk_start s.at s.bytes.now) ≤ m.limit_of b
-  last_room room = let k = room_kept m style steps room in let e = ap length at_end in omega arith
+  pub begun : (s : RawState) (chunk : List ℕ) → s.rest.now ≡ chunk → length chunk ≤ 16384 → raw_ahead s ≡ code → (b : B) → Printed chunk 0 s b b
+  begun s chunk e h c b = record { text = []; appends = appends-nothing m b; total = c; within = omega arith; rest = e; small = h }
 
-  pub flushed : {c : B} → Appends m b c (between s.chunk_start s.at s.bytes.now) → Appends m a c (raw_pending style r)
-  flushed {c} p = subst (Appends m a c) (ap (λ x. steps.text ++ x) (sym at_end) ∙ steps.total) (appends_join m steps.appends p)
+  module _ {chunk : List ℕ} {kept : ℕ} {from : RawState} {a b : B} (p : Printed chunk kept from a b) where
+    pub ahead_fits : length from.rest.now + kept ≡ length chunk
+    ahead_fits = omega (arith, ap length p.rest, length-drop kept chunk, p.within)
+
+    room_left : length (m.bytes a) + length code ≤ m.limit_of a → length (m.bytes b) + length (take kept chunk) + length (raw_ahead from) ≤ m.limit_of b
+    room_left room =
+        let n = appended_length m p.appends in
+        let l = p.appends.limit_stays in
+        let e = ap length (sym p.total) ∙ length-append p.text (take kept chunk ++ raw_ahead from) in
+        let f = length-append (take kept chunk) (raw_ahead from) in
+        omega arith
+
+    pub chunk_room : length (m.bytes a) + length code ≤ m.limit_of a → length (m.bytes b) + length (take kept chunk) ≤ m.limit_of b
+    chunk_room room = omega (arith, room_left room)
+
+    pub kept_on : {to : RawState} (n : ℕ) → RawTaken from to (Keep n) → Printed chunk (kept + n) to a b
+    kept_on {to} n t = record {
+      text = p.text;
+      appends = p.appends;
+      total =
+          ap (λ x. p.text ++ (x ++ raw_ahead to)) (take-add kept n chunk)
+          ∙ ap (λ x. p.text ++ ((take kept chunk ++ take n x) ++ raw_ahead to)) (sym p.rest)
+          ∙ ap (λ x. p.text ++ x) (append_assoc (take kept chunk) (take n from.rest.now) (raw_ahead to) ∙ ap (λ x. take kept chunk ++ x) (sym t.shown))
+          ∙ p.total;
+      within = let w = t.within in omega (arith, ahead_fits);
+      rest = t.rest ∙ ap (drop n) p.rest ∙ drop-drop n kept chunk;
+      small = p.small;
+    }
+
+    module _ {to : RawState} (r : RawTurn) (t : RawTaken from to r) (other : (n : ℕ) → r ≡ Keep n → ⊥) where
+      shown : raw_ahead from ≡ raw_text to.style.mode r ++ raw_ahead to
+      shown = t.shown ∙ ap (λ x. x ++ raw_ahead to) (puts-text to.style.mode from.rest.now r other)
+
+      pub turn_room : {c : B} → length (m.bytes a) + length code ≤ m.limit_of a → Appends m b c (take kept chunk) →
+          length (m.bytes c) + length (raw_text to.style.mode r) ≤ m.limit_of c
+      turn_room {c} room q =
+          let n = appended_length m q in
+          let l = q.limit_stays in
+          let e = ap length shown ∙ length-append (raw_text to.style.mode r) (raw_ahead to) in
+          omega (arith, room_left room)
+
+      pub printed_on : {c d : B} → Appends m b c (take kept chunk) → Appends m c d (raw_text to.style.mode r) → Printed to.rest.now 0 to a d
+      printed_on {c} {d} q w = record {
+        text = p.text ++ (take kept chunk ++ raw_text to.style.mode r);
+        appends = appends_join m p.appends (appends_join m q w);
+        total =
+            append_assoc p.text (take kept chunk ++ raw_text to.style.mode r) (raw_ahead to)
+            ∙ ap (λ x. p.text ++ x) (append_assoc (take kept chunk) (raw_text to.style.mode r) (raw_ahead to) ∙ ap (λ x. take kept chunk ++ x) (sym shown))
+            ∙ p.total;
+        within = omega arith;
+        rest = refl;
+        small = omega (arith, p.small, ahead_fits, ap length t.rest, length-drop (raw_takes r) from.rest.now);
+      }
+
+    -- at the end of the text the chunk is left
+    pub flushed : {c : B} → raw_ahead from ≡ [] → Appends m b c (take kept chunk) → Appends m a c code
+    flushed {c} e q =
+        subst (Appends m a c) (ap (λ x. p.text ++ x) (sym (append-nil (take kept chunk)) ∙ ap (λ x. take kept chunk ++ x) (sym e)) ∙ p.total) (appends_join m p.appends q)

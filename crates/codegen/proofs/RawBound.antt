@@ -1,8 +1,8 @@
--- Raw text becomes at most three times as long; and one turn on, where the bytes are only counted.
-use Rattle.std.proofs.Common.{◌≡◌, ℕ, ◌+◌, ◌*◌, ◌<◌, ◌≤◌, Bool, true, false, cond, ◌&&◌, eqb, ltb, leb, List, [], ◌∷◌, ◌++◌, length, get_or, drop, sym, refl, ap, ◌∙◌, subst, ⊎_elim, add-zero, arith, length-append, length-drop}
+-- Raw text becomes at most three times as long; and the bytes that a turn prints are counted.
+use Rattle.std.proofs.Common.{◌≡◌, ℕ, ◌+◌, ◌*◌, ◌<◌, ◌≤◌, Bool, true, false, cond, ◌&&◌, eqb, ltb, leb, List, [], ◌∷◌, ◌++◌, length, refl, ap, ◌∙◌, ⊎_elim, arith, length-append}
 use lib.Utf8.{encode, encodes}
 use Rattle.std.specs.Char.{len_utf8}
-use Rattle.std.proofs.lemmas.List.{append-nil, drop-drop, get_or-drop, length-take-le}
+use Rattle.std.proofs.lemmas.List.{append-nil, length-take-le}
 use Rattle.std.proofs.lemmas.Str.{length-encode, len_utf8_bounds, encodes-append}
 use Rattle.std.proofs.lemmas.Bool.{cond_both, and_parts, leb-true, le-leb, lt-ltb, cases_lt}
 use Rattle.std.proofs.lemmas.Bool.Decides.{nat_tests}
@@ -12,15 +12,17 @@ use Rattle.literal.specs.declared.NonAsciiEscape.{NonAsciiEscape}
 use Rattle.literal.specs.declared.NonAsciiEscape.TheVariants.{Identifier, RegExp, TemplateRaw, Directive}
 use Rattle.literal.specs.Escapes.{behind, script, five_digits}
 use Rattle.literal.specs.Raw.{odd_behind, is_separator, continues_lines, wide, unit_escapes, wide_escape, wide_printed}
-use Rattle.literal.specs.RawWalk.{backslash_goes, raw_turn, raw_walk}
 use Rattle.text.specs.Sequence.{code_points}
+use Rattle.codegen.specs.declared.raw_style.RawStyle.{RawStyle}
+use Rattle.codegen.specs.declared.raw_state.RawState.{RawState}
 use Rattle.codegen.specs.declared.raw_turn.RawTurn.{RawTurn}
 use Rattle.codegen.specs.declared.raw_turn.RawTurn.TheVariants.{Keep, Drop, Escaped, LineEnd, Tag}
-use Rattle.codegen.specs.RawTurns.{raw_takes, raw_puts, raw_size, raw_body, odd_after, RawTurned}
+use Rattle.codegen.specs.RawTurns.{raw_takes, raw_puts, raw_size, raw_body}
+use Rattle.codegen.specs.RawCursor.{raw_ahead, RawTaken}
 use Rattle.codegen.specs.Turns.{Fit}
 use Rattle.codegen.proofs.Steps.{encodes-plain}
 use Rattle.codegen.proofs.RawArms.{two_units}
-use Rattle.codegen.proofs.RawSteps.{wide-plain}
+use Rattle.codegen.proofs.RawSteps.{goes_in, turn_in, walk_in, wide-plain}
 
 -- the length of an escape, by how far up the character is
 
@@ -30,16 +32,16 @@ low_one c h = rw (le-leb c 0xFFFF (omega arith)) refl
 low_units : (c : ℕ) → c < 0x10000 → length (unit_escapes (utf16 c)) ≡ 6
 low_units c h = rw (lt-ltb c 0x10000 h) refl
 
-pub low_length : (mode : NonAsciiEscape) (c : ℕ) → c < 0x10000 → length (wide_escape mode c) ≡ 6
+low_length : (mode : NonAsciiEscape) (c : ℕ) → c < 0x10000 → length (wide_escape mode c) ≡ 6
 low_length Identifier c h = low_one c h
 low_length RegExp c h = low_units c h
 low_length TemplateRaw c h = low_one c h
 low_length Directive c h = low_one c h
 
-pub high_units : (c : ℕ) → 0x10000 ≤ c → length (wide_escape RegExp c) ≡ 12
+high_units : (c : ℕ) → 0x10000 ≤ c → length (wide_escape RegExp c) ≡ 12
 high_units c h = ap (λ us. length (unit_escapes us)) (two_units c h)
 
-pub high_one : (c : ℕ) → 0x10000 ≤ c → length (0x5C ∷ behind c (wide c)) ≡ cond (ltb c 0x100000) 9 10
+high_one : (c : ℕ) → 0x10000 ≤ c → length (0x5C ∷ behind c (wide c)) ≡ cond (ltb c 0x100000) 9 10
 high_one c h = rw (lt_leb_of c h) (go (ltb c 0x100000))
   where
     lt_leb_of : (c : ℕ) → 0x10000 ≤ c → leb c 0xFFFF ≡ false
@@ -66,37 +68,38 @@ wide_bound mode c h =
 plain-length : (t : List ℕ) → encodes t ≡ t → (n : ℕ) → length t ≤ n → length (encodes t) ≤ n
 plain-length t e n h = let l = ap length e in omega arith
 
-turn_bound : (dollars ascii : Bool) (mode : NonAsciiEscape) (tags odd : Bool) (before c : ℕ) (cs : List ℕ) → length (encodes (raw_turn dollars ascii mode tags odd before c cs)) ≤ 3 * len_utf8 c
-turn_bound dollars ascii mode tags odd before c cs =
+turn_bound : (style : RawStyle) (odd : Bool) (before c : ℕ) (cs : List ℕ) → length (encodes (turn_in style odd before c cs)) ≤ 3 * len_utf8 c
+turn_bound style odd before c cs =
     let w = len_utf8_bounds c in
-    cond_both (odd_behind odd c && backslash_goes dollars ascii mode cs) [] _ P (λ _. omega arith) (λ _.
-    cond_both (leb 0x80 c && ascii) (wide_printed mode odd c) _ P
-    (λ t. cond_both (is_separator c && odd && continues_lines mode) (0x5C ∷ 0x0A ∷ []) (wide_escape mode c) P
+    cond_both (odd_behind odd c && goes_in style cs) [] _ P (λ _. omega arith) (λ _.
+    cond_both (leb 0x80 c && style.ascii_only) (wide_printed style.mode odd c) _ P
+    (λ t. cond_both (is_separator c && odd && continues_lines style.mode) (0x5C ∷ 0x0A ∷ []) (wide_escape style.mode c) P
     (λ _. plain-length (0x5C ∷ 0x0A ∷ []) (encodes-plain (0x5C ∷ 0x0A ∷ []) (omega arith)) (3 * len_utf8 c) (omega arith))
-    (λ _. plain-length (wide_escape mode c) (encodes-plain (wide_escape mode c) (wide-plain mode c)) (3 * len_utf8 c) (wide_bound mode c (leb-true 0x80 c (and_parts (leb 0x80 c) ascii t).0))))
-    (λ _. cond_both (eqb c 0x2F && eqb before 0x3C && opens script cs && tags) (0x5C ∷ 0x2F ∷ []) (c ∷ []) P
+    (λ _. plain-length (wide_escape style.mode c) (encodes-plain (wide_escape style.mode c) (wide-plain style.mode c)) (3 * len_utf8 c) (wide_bound style.mode c (leb-true 0x80 c (and_parts (leb 0x80 c) style.ascii_only t).0))))
+    (λ _. cond_both (eqb c 0x2F && eqb before 0x3C && opens script cs && style.tags) (0x5C ∷ 0x2F ∷ []) (c ∷ []) P
     (λ _. plain-length (0x5C ∷ 0x2F ∷ []) (encodes-plain (0x5C ∷ 0x2F ∷ []) (omega arith)) (3 * len_utf8 c) (omega arith))
     (λ _. omega (arith, ap length (append-nil (encode c)), length-encode c))))
   where
     P : List ℕ → Type 0
     P t = length (encodes t) ≤ 3 * len_utf8 c
 
-walk_bound : (dollars ascii : Bool) (mode : NonAsciiEscape) (tags odd : Bool) (before : ℕ) (cs : List ℕ) → length (encodes (raw_walk dollars ascii mode tags odd before cs)) ≤ 3 * length (encodes cs)
-walk_bound dollars ascii mode tags odd before [] = omega arith
-walk_bound dollars ascii mode tags odd before (c ∷ cs) =
-    let t = raw_turn dollars ascii mode tags odd before c cs in
-    let e = ap length (encodes-append t (raw_walk dollars ascii mode tags (odd_behind odd c) c cs)) ∙ length-append (encodes t) (encodes (raw_walk dollars ascii mode tags (odd_behind odd c) c cs)) in
+walk_bound : (style : RawStyle) (odd : Bool) (before : ℕ) (cs : List ℕ) → length (encodes (walk_in style odd before cs)) ≤ 3 * length (encodes cs)
+walk_bound style odd before [] = omega arith
+walk_bound style odd before (c ∷ cs) =
+    let t = turn_in style odd before c cs in
+    let e = ap length (encodes-append t (walk_in style (odd_behind odd c) c cs)) ∙ length-append (encodes t) (encodes (walk_in style (odd_behind odd c) c cs)) in
     let d = length-append (encode c) (encodes cs) in
     let w = length-encode c in
-    let f = turn_bound dollars ascii mode tags odd before c cs in
-    let r = walk_bound dollars ascii mode tags (odd_behind odd c) c cs in
+    let f = turn_bound style odd before c cs in
+    let r = walk_bound style (odd_behind odd c) c cs in
     omega arith
 
-pub raw_bound : (dollars ascii : Bool) (mode : NonAsciiEscape) (tags odd : Bool) (s : List ℕ) → Fit false s → length (raw_body dollars ascii mode tags odd s) ≤ 3 * length s
+pub raw_bound : (style : RawStyle) (odd : Bool) (s : List ℕ) → Fit false s → length (raw_body style odd s) ≤ 3 * length s
 unfolding raw_body
-raw_bound dollars ascii mode tags odd s f = let e = ap length f.0 in let b = walk_bound dollars ascii mode tags odd 0 (code_points s) in omega arith
+raw_bound style odd s f = let e = ap length f.0 in let b = walk_bound style odd 0 (code_points s) in omega arith
 
--- one turn on
+-- a turn prints as many bytes as it says
+
 puts_size : (mode : NonAsciiEscape) (s : List ℕ) (r : RawTurn) → raw_takes r ≤ length s → length (raw_puts mode s r) ≡ raw_size mode r
 puts_size mode s (Keep n) h = length-take-le n s h
 puts_size mode s Drop h = refl
@@ -104,18 +107,5 @@ puts_size mode s (Escaped c n) h = refl
 puts_size mode s (LineEnd n) h = refl
 puts_size mode s Tag h = refl
 
-pub counted : (dollars ascii : Bool) (mode : NonAsciiEscape) (tags odd o : Bool) (bytes : List ℕ) (at size k n : ℕ) (r : RawTurn) → at < length bytes →
-    RawTurned dollars ascii mode tags odd (drop at bytes) r → k ≡ raw_size mode r → n ≡ raw_takes r → o ≡ odd_behind odd (get_or bytes at 0) →
-    size + length (raw_body dollars ascii mode tags odd (drop at bytes)) ≡ length (raw_body dollars ascii mode tags false bytes) →
-    (at + n ≤ length bytes) × Fit false (drop (at + n) bytes) × (size + k + length (raw_body dollars ascii mode tags o (drop (at + n) bytes)) ≡ length (raw_body dollars ascii mode tags false bytes))
-counted dollars ascii mode tags odd o bytes at size k n r h t e i q s =
-    let w = t.within in
-    let d : drop (raw_takes r) (drop at bytes) ≡ drop (at + n) bytes = drop-drop (raw_takes r) at bytes ∙ ap (λ x. drop (at + x) bytes) (sym i) in
-    let p : odd_after odd (drop at bytes) ≡ o = ap (odd_behind odd) (get_or-drop at bytes 0 0 ∙ ap (λ x. get_or bytes x 0) (add-zero at)) ∙ sym q in
-    let z = ap length t.shown ∙ length-append (raw_puts mode (drop at bytes) r) (raw_body dollars ascii mode tags (odd_after odd (drop at bytes)) (drop (raw_takes r) (drop at bytes))) in
-    let y : length (raw_body dollars ascii mode tags (odd_after odd (drop at bytes)) (drop (raw_takes r) (drop at bytes))) ≡ length (raw_body dollars ascii mode tags o (drop (at + n) bytes)) =
-    ap (λ x. length (raw_body dollars ascii mode tags x (drop (raw_takes r) (drop at bytes)))) p ∙ ap (λ x. length (raw_body dollars ascii mode tags o x)) d in
-    (omega (arith, length-drop at bytes), subst (Fit false) d t.fit, omega (arith, puts_size mode (drop at bytes) r w))
-
-pub counted_more : (dollars ascii : Bool) (mode : NonAsciiEscape) (tags odd : Bool) (s : List ℕ) (n : ℕ) (r : RawTurn) → RawTurned dollars ascii mode tags odd s r → n ≡ raw_takes r → 0 < n
-counted_more dollars ascii mode tags odd s n r t i = let m = t.more in omega arith
+pub counted : {from to : RawState} {r : RawTurn} → RawTaken from to r → length (raw_ahead from) ≡ raw_size to.style.mode r + length (raw_ahead to)
+counted {from} {to} {r} t = ap length t.shown ∙ length-append (raw_puts to.style.mode from.rest.now r) (raw_ahead to) ∙ ap (λ n. n + length (raw_ahead to)) (puts_size to.style.mode from.rest.now r t.within)

@@ -1,5 +1,5 @@
 -- Raw text that exists is made of characters; what is printed of it is the walk's; and what the laws say of it.
-use Rattle.std.proofs.Common.{◌≡◌, ℕ, ◌≤◌, Bool, true, false, ◌||◌, eqb, leb, List, [], ◌∷◌, ◌++◌, length, sym, refl, ap, ◌∙◌, subst, inl, inr, ⊎_elim, arith}
+use Rattle.std.proofs.Common.{◌≡◌, ℕ, ◌*◌, ◌≤◌, Bool, true, false, ◌||◌, eqb, leb, List, [], ◌∷◌, ◌++◌, length, sym, refl, ap, ◌∙◌, subst, inl, inr, ⊎_elim, arith}
 use lib.Utf8.{encodes}
 use Rattle.std.specs.List.{AllByRecursion}
 use Rattle.std.proofs.lemmas.Bool.{or_cases, and_parts, eqb-true, leb-true, both_ways}
@@ -10,6 +10,8 @@ use Rattle.ecma262.proofs.After.{closed}
 use Rattle.ecma262.proofs.Broken.{unbroken}
 use Rattle.ecma262.proofs.Values.{unique}
 use Rattle.ecma262.specs.Names.{NameStart, NamePart, NameText}
+use Rattle.options.specs.declared.CodegenOptions.{CodegenOptions}
+use Rattle.literal.specs.declared.NonAsciiEscape.{NonAsciiEscape}
 use Rattle.literal.specs.declared.NonAsciiEscape.TheVariants.{Identifier, RegExp, TemplateRaw, Directive}
 use Rattle.literal.specs.Raw.{piece}
 use Rattle.literal.proofs.OneWalk.{piece_in_one_walk, tagged_in_one_walk, others_in_one_walk}
@@ -27,13 +29,14 @@ use Rattle.text.proofs.Ruled.{named}
 use Rattle.text.proofs.Walked.{barred_true}
 use Rattle.codegen.specs.declared.raw_kind.RawKind.{RawKind}
 use Rattle.codegen.specs.declared.raw_kind.RawKind.TheVariants.{Piece, TaggedPiece, Directive as DirectiveKind, Pattern, Name}
-use Rattle.codegen.specs.RawCursor.{body_in}
-use Rattle.codegen.specs.RawKinds.{check_of, style_of, printed_of}
+use Rattle.codegen.specs.declared.raw_style.RawStyle.{RawStyle}
+use Rattle.codegen.specs.RawKinds.{check_of, printed_of}
 use Rattle.codegen.specs.RawTurns.{raw_body}
 use Rattle.codegen.specs.RawTexts.{piece_bytes, tagged_bytes, directive_bytes, regex_bytes, name_bytes}
 use Rattle.codegen.specs.RawLaws.{Tagless, Ascii, PieceValueKept, TaggedValueKept, DirectiveValueKept, PatternKept, NameReadBack}
 use Rattle.codegen.specs.Turns.{Fine, Fit}
 use Rattle.codegen.proofs.Steps.{fit-encodes}
+use Rattle.codegen.proofs.RawBound.{raw_bound}
 
 all_fine : (before : ℕ) (cs : List ℕ) → Points Utf8 before cs → AllByRecursion (Fine false) cs
 all_fine before [] p = tt
@@ -49,52 +52,62 @@ formed_fits bytes w = subst (Fit false) w.2 (fit-encodes false w.0 (all_fine 0 w
 pub formed_points : (bytes : List ℕ) → WellFormed Utf8 bytes → Points Utf8 0 (code_points bytes)
 formed_points bytes w = subst (Points Utf8 0) (sym (ap code_points (sym w.2) ∙ read Utf8 w.0 w.1)) w.1
 
-pub raw-fits : (held bytes : List ℕ) → (raw_answer held).number ≡ 0 → bytes ≡ held → Fit false bytes × (length bytes ≤ 16384)
-raw-fits held bytes h e = let g = good-raw held h in subst (λ b. Fit false b × (length b ≤ 16384)) (sym e) (formed_fits held g.1, g.0)
+raw_fits : (bytes : List ℕ) → (raw_answer bytes).number ≡ 0 → Fit false bytes × (length bytes ≤ 16384)
+raw_fits bytes h = let g = good-raw bytes h in (formed_fits bytes g.1, g.0)
 
-pub name-fits : (held bytes : List ℕ) → (name_answer held).number ≡ 0 → bytes ≡ held → Fit false bytes × (length bytes ≤ 128)
-name-fits held bytes h e = let g = good-name held h in subst (λ b. Fit false b × (length b ≤ 128)) (sym e) (formed_fits held g.1, g.0)
+pub name_fits : (bytes : List ℕ) → (name_answer bytes).number ≡ 0 → Fit false bytes × (length bytes ≤ 128)
+name_fits bytes h = let g = good-name bytes h in (formed_fits bytes g.1, g.0)
 
-pub template-fits : (held bytes : List ℕ) → (template_answer held).number ≡ 0 → bytes ≡ held → Fit false bytes × (length bytes ≤ 16384)
-template-fits held bytes h e = let g = good-template held h in subst (λ b. Fit false b × (length b ≤ 16384)) (sym e) (formed_fits held g.1, g.0)
+template_fits : (bytes : List ℕ) → (template_answer bytes).number ≡ 0 → Fit false bytes × (length bytes ≤ 16384)
+template_fits bytes h = let g = good-template bytes h in (formed_fits bytes g.1, g.0)
 
 -- what is printed
 
-pub piece_is : (minify ascii : Bool) (held bytes : List ℕ) → bytes ≡ held → raw_body minify ascii TemplateRaw true false bytes ≡ piece_bytes minify ascii held
+pub piece_is : (minify ascii : Bool) (bytes : List ℕ) → raw_body (record { dollars = minify; ascii_only = ascii; mode = TemplateRaw; tags = true }) false bytes ≡ piece_bytes minify ascii bytes
 unfolding raw_body piece_bytes
-piece_is minify ascii held bytes e = ap (λ b. raw_body minify ascii TemplateRaw true false b) e ∙ ap encodes (sym (piece_in_one_walk minify ascii (code_points held)))
+piece_is minify ascii bytes = ap encodes (sym (piece_in_one_walk minify ascii (code_points bytes)))
 
-pub tagged_is : (held bytes : List ℕ) → bytes ≡ held → raw_body false false TemplateRaw true false bytes ≡ tagged_bytes held
+pub tagged_is : (bytes : List ℕ) → raw_body (record { dollars = false; ascii_only = false; mode = TemplateRaw; tags = true }) false bytes ≡ tagged_bytes bytes
 unfolding raw_body tagged_bytes
-tagged_is held bytes e = ap (λ b. raw_body false false TemplateRaw true false b) e ∙ ap encodes (sym (tagged_in_one_walk (code_points held)))
+tagged_is bytes = ap encodes (sym (tagged_in_one_walk (code_points bytes)))
 
-pub directive_is : (ascii : Bool) (held bytes : List ℕ) → bytes ≡ held → raw_body false ascii Directive false false bytes ≡ directive_bytes ascii held
+-- outside of templates
+abbrev plainly : Bool → NonAsciiEscape → RawStyle
+plainly ascii mode = record { dollars = false; ascii_only = ascii; mode = mode; tags = false }
+
+pub directive_is : (ascii : Bool) (bytes : List ℕ) → raw_body (plainly ascii Directive) false bytes ≡ directive_bytes ascii bytes
 unfolding raw_body directive_bytes
-directive_is ascii held bytes e = ap (λ b. raw_body false ascii Directive false false b) e ∙ ap encodes (sym (others_in_one_walk ascii (code_points held)).0)
+directive_is ascii bytes = ap encodes (sym (others_in_one_walk ascii (code_points bytes)).0)
 
-pub regex_is : (ascii : Bool) (held bytes : List ℕ) → bytes ≡ held → raw_body false ascii RegExp false false bytes ≡ regex_bytes ascii held
+pub regex_is : (ascii : Bool) (bytes : List ℕ) → raw_body (plainly ascii RegExp) false bytes ≡ regex_bytes ascii bytes
 unfolding raw_body regex_bytes
-regex_is ascii held bytes e = ap (λ b. raw_body false ascii RegExp false false b) e ∙ ap encodes (sym (others_in_one_walk ascii (code_points held)).1)
+regex_is ascii bytes = ap encodes (sym (others_in_one_walk ascii (code_points bytes)).1)
 
-pub name_is : (ascii : Bool) (held bytes : List ℕ) → bytes ≡ held → raw_body false ascii Identifier false false bytes ≡ name_bytes ascii held
+pub name_is : (ascii : Bool) (bytes : List ℕ) → raw_body (plainly ascii Identifier) false bytes ≡ name_bytes ascii bytes
 unfolding raw_body name_bytes
-name_is ascii held bytes e = ap (λ b. raw_body false ascii Identifier false false b) e ∙ ap encodes (sym (others_in_one_walk ascii (code_points held)).2)
+name_is ascii bytes = ap encodes (sym (others_in_one_walk ascii (code_points bytes)).2)
 
--- the same by kind
+-- bytes that were checked are characters, within the limit, and become at most three times as long
 
 pub kind_fits : (kind : RawKind) (bytes : List ℕ) → (check_of kind bytes).number ≡ 0 → Fit false bytes × (length bytes ≤ 16384)
-kind_fits Piece bytes h = template-fits bytes bytes h refl
-kind_fits TaggedPiece bytes h = raw-fits bytes bytes h refl
-kind_fits DirectiveKind bytes h = raw-fits bytes bytes h refl
-kind_fits Pattern bytes h = raw-fits bytes bytes h refl
-kind_fits Name bytes h = let f = name-fits bytes bytes h refl in (f.0, omega (arith, f.1))
+kind_fits Piece bytes h = template_fits bytes h
+kind_fits TaggedPiece bytes h = raw_fits bytes h
+kind_fits DirectiveKind bytes h = raw_fits bytes h
+kind_fits Pattern bytes h = raw_fits bytes h
+kind_fits Name bytes h = let f = name_fits bytes h in (f.0, omega (arith, f.1))
 
-pub kind_is : (kind : RawKind) (minify ascii : Bool) (held bytes : List ℕ) → bytes ≡ held → body_in (style_of kind minify ascii) false bytes ≡ printed_of kind minify ascii held
-kind_is Piece minify ascii held bytes e = piece_is minify ascii held bytes e
-kind_is TaggedPiece minify ascii held bytes e = tagged_is held bytes e
-kind_is DirectiveKind minify ascii held bytes e = directive_is ascii held bytes e
-kind_is Pattern minify ascii held bytes e = regex_is ascii held bytes e
-kind_is Name minify ascii held bytes e = name_is ascii held bytes e
+pub kind_bound : (kind : RawKind) (o : CodegenOptions) (bytes : List ℕ) → (check_of kind bytes).number ≡ 0 → length (printed_of kind o bytes) ≤ 3 * length bytes
+kind_bound kind o bytes h = by_kind kind (kind_fits kind bytes h).0
+  where
+    bounded : (style : RawStyle) (printed : List ℕ) → raw_body style false bytes ≡ printed → Fit false bytes → length printed ≤ 3 * length bytes
+    bounded style printed e f = subst (λ s. length s ≤ 3 * length bytes) e (raw_bound style false bytes f)
+
+    by_kind : (kind : RawKind) → Fit false bytes → length (printed_of kind o bytes) ≤ 3 * length bytes
+    by_kind Piece f = bounded _ _ (piece_is o.minify o.ascii_only bytes) f
+    by_kind TaggedPiece f = bounded _ _ (tagged_is bytes) f
+    by_kind DirectiveKind f = bounded _ _ (directive_is o.ascii_only bytes) f
+    by_kind Pattern f = bounded _ _ (regex_is o.ascii_only bytes) f
+    by_kind Name f = bounded _ _ (name_is o.ascii_only bytes) f
 
 -- what the laws say of it
 
@@ -112,8 +125,8 @@ one_value : (text u v : List ℕ) → Characters Backtick text [] u → Characte
 one_value text u v c d =
     (unique Backtick (0x60 ∷ (text ++ (0x60 ∷ []))) [] [] u v (Literal.quoted (closed Backtick text [] u c)) (Literal.quoted (closed Backtick text [] v d))).1
 
-pub piece-value : (minify ascii : Bool) (bytes : List ℕ) → (template_answer bytes).number ≡ 0 → PieceValueKept minify ascii bytes
-piece-value minify ascii bytes h =
+pub piece_value : (minify ascii : Bool) (bytes : List ℕ) → (template_answer bytes).number ≡ 0 → PieceValueKept minify ascii bytes
+piece_value minify ascii bytes h =
     let g = good-template bytes h in
     let text = code_points bytes in
     let t = (unbroken text (all-points 0 text (formed_points bytes g.1))).0 g.2 in
@@ -137,8 +150,8 @@ unfolding directive_bytes
 directive_ascii true bytes e = (raw_ascii false (code_points bytes)).1
 directive_ascii false bytes e = absurd (both_ways false refl e)
 
-pub directive-value : (ascii : Bool) (bytes : List ℕ) → DirectiveValueKept ascii bytes
-directive-value ascii bytes q sv c = directive_kept q ascii (code_points bytes) sv c
+pub directive_value : (ascii : Bool) (bytes : List ℕ) → DirectiveValueKept ascii bytes
+directive_value ascii bytes q sv c = directive_kept q ascii (code_points bytes) sv c
 
 pub regex_ascii : (ascii : Bool) (bytes : List ℕ) → Ascii ascii (regex_bytes ascii bytes)
 unfolding regex_bytes

@@ -1,16 +1,15 @@
 -- The costs of the quotes, counted in a text's bytes; and characters that cost nothing in any quotes.
-use Rattle.std.proofs.Common.{◌≡◌, ℕ, ◌+◌, ◌<◌, ◌≤◌, Bool, true, false, cond, ◌&&◌, ◌||◌, eqb, leb, List, [], ◌∷◌, ◌++◌, length, get_or, drop, sym, refl, ap, ◌∙◌, add-zero, arith}
+use Rattle.std.proofs.Common.{◌≡◌, ℕ, ◌+◌, ◌≤◌, Bool, true, false, cond, ◌&&◌, eqb, leb, List, [], ◌∷◌, ◌++◌, length, drop, sym, refl, ap, ◌∙◌, add-zero, arith}
 use lib.Utf8.{encodes}
 use Rattle.std.specs.List.{AllByRecursion}
-use Rattle.std.proofs.lemmas.List.{at_drop_more, at_drop_all, get_or-drop}
+use Rattle.std.proofs.lemmas.List.{at_drop_all}
 use Rattle.std.proofs.lemmas.Bool.{ne_eqb}
-use Rattle.std.proofs.lemmas.Bool.Decides.{nat_tests}
 use Rattle.ecma262.specs.declared.Quote.{Quote}
 use Rattle.ecma262.specs.declared.Quote.TheVariants.{Single, Double, Backtick}
 use Rattle.ecma262.specs.Lookahead.{opens}
 use Rattle.literal.specs.Quotes.{adds, takes, added, taken, chosen}
 use Rattle.text.specs.Sequence.{code_points}
-use Rattle.ecma262.proofs.Utf8.{Encoded, ascii, wide, encoded, same_front, first_test, eqb_narrow}
+use Rattle.ecma262.proofs.Utf8.{Encoded, ascii, wide, encoded, same_front, eqb_narrow}
 
 wide-adds : (q : Quote) (x : ℕ) (cs : List ℕ) → 0x80 ≤ x → adds q x cs ≡ 0
 wide-adds Single x cs h = rw (ne_eqb x 0x27 (omega arith)) refl
@@ -57,7 +56,7 @@ none-double : (s : List ℕ) → taken Double s ≡ 0
 none-double [] = refl
 none-double (c ∷ s) = omega (arith, none-double s)
 
-abbrev pub cheap : Bool → ℕ → ℕ → ℕ → ℕ → Quote
+abbrev cheap : Bool → ℕ → ℕ → ℕ → ℕ → Quote
 cheap allow s d t l = cond (allow && leb t (cond (leb d s) d s + l)) Backtick (cond (leb d s) Double Single)
 
 chosen_by : (allow : Bool) (text : List ℕ) → chosen allow text ≡ cheap allow (added Single text) (added Double text) (added Backtick text) (taken Backtick text)
@@ -87,39 +86,6 @@ chosen_is allow bytes i s d t l r f h es ed et el e =
     let t1 : t ≡ added Backtick text = let z = at_drop_all (added Backtick) bytes i h in omega (arith, over Backtick) in
     let l1 : l ≡ taken Backtick text = let z = at_drop_all (taken Backtick) bytes i h in omega (arith, under) in
     e ∙ rw (s1, d1, t1, l1) (sym (chosen_by allow text))
-
--- one more byte
-pub record More (bytes : List ℕ) (i b next : ℕ) : Type 0 where
-  pub single : added Single (drop i bytes) ≡ cond (eqb b 0x27) 1 0 + added Single (drop (i + 1) bytes)
-  pub double : added Double (drop i bytes) ≡ cond (eqb b 0x22) 1 0 + added Double (drop (i + 1) bytes)
-  pub backtick : added Backtick (drop i bytes) ≡ cond (eqb b 0x60 || eqb b 0x24 && eqb next 0x7B) 1 0 + added Backtick (drop (i + 1) bytes)
-  pub lines : taken Backtick (drop i bytes) ≡ cond (eqb b 0x0A) 1 0 + taken Backtick (drop (i + 1) bytes)
-
-or_false : (b : Bool) → (b || false) ≡ b
-or_false true = refl
-or_false false = refl
-
-pub one_more : (bytes : List ℕ) (i next : ℕ) → i < length bytes → next ≡ get_or bytes (i + 1) 0 → More bytes i (get_or bytes i 0) next
-one_more bytes i next h e =
-    let b = get_or bytes i 0 in
-    let o : opens (eqb 0x7B ∷ []) (drop (i + 1) bytes) ≡ eqb next 0x7B =
-    first_test (eqb 0x7B) refl (drop (i + 1) bytes) ∙ ap (eqb 0x7B) (get_or-drop (i + 1) bytes 0 0 ∙ ap (λ k. get_or bytes k 0) (add-zero (i + 1)) ∙ sym e) ∙ flip next in
-    record {
-      single = at_drop_more (added Single) bytes i 0 h ∙ ap (λ t. cond t 1 0 + added Single (drop (i + 1) bytes)) (or_false (eqb b 0x27));
-      double = at_drop_more (added Double) bytes i 0 h ∙ ap (λ t. cond t 1 0 + added Double (drop (i + 1) bytes)) (or_false (eqb b 0x22));
-      backtick = at_drop_more (added Backtick) bytes i 0 h ∙ ap (λ t. cond (eqb b 0x60 || eqb b 0x24 && t) 1 0 + added Backtick (drop (i + 1) bytes)) o;
-      lines = at_drop_more (taken Backtick) bytes i 0 h;
-    }
-  where
-    flip : (n : ℕ) → eqb 0x7B n ≡ eqb n 0x7B
-    flip n = grind (arith, nat_tests)
-
-one_at_most : (b : Bool) → cond b 1 0 ≤ 1
-one_at_most true = omega arith
-one_at_most false = omega arith
-
-pub tallies : (b : Bool) (n m i x y z : ℕ) → m ≡ n + cond b 1 0 → n ≤ i → n + x ≡ z → x ≡ cond b 1 0 + y → (m ≤ i + 1) × (m + y ≡ z)
-tallies b n m i x y z e l f g = let k = one_at_most b in (omega arith, omega arith)
 
 -- a character before cs that costs nothing in any quotes
 abbrev pub Neutral : ℕ → List ℕ → Type 0

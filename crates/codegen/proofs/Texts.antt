@@ -14,8 +14,7 @@ use Rattle.text.specs.Wtf8.{Points, WellFormed}
 use Rattle.text.specs.Sequence.{is_surrogate, surrogates, marked, code_points}
 use Rattle.text.specs.Answers.{text_answer}
 use Rattle.text.proofs.Formed.{good-text, marks}
-use Rattle.codegen.specs.Cursor.{settled, opening, opened}
-use Rattle.codegen.specs.Strings.{quoted}
+use Rattle.codegen.specs.Strings.{quoted, settled, opening, opened}
 use Rattle.codegen.specs.Turns.{Fine, Fit, body}
 use Rattle.codegen.proofs.Steps.{fit-encodes}
 
@@ -37,7 +36,7 @@ mark-plain Single = encode_1 0x27 (omega arith)
 mark-plain Double = encode_1 0x22 (omega arith)
 mark-plain Backtick = encode_1 0x60 (omega arith)
 
-pub literal_is : (q : Quote) (ascii : Bool) (bytes : List ℕ) → quoted q ascii bytes ≡ mark q ∷ (body q ascii bytes ++ (mark q ∷ []))
+literal_is : (q : Quote) (ascii : Bool) (bytes : List ℕ) → quoted q ascii bytes ≡ mark q ∷ (body q ascii bytes ++ (mark q ∷ []))
 unfolding body quoted
 literal_is q ascii bytes =
     ap (λ s. s ++ encodes (escaped q ascii (code_points bytes) ++ (mark q ∷ []))) (mark-plain q)
@@ -50,7 +49,7 @@ literal_size_lem q ascii bytes = ap length (literal_is q ascii bytes) ∙ size
     size = omega (arith, length-append (body q ascii bytes) (mark q ∷ []))
 
 -- the opening quote is printed at the start, or when it is settled
-pub opened-once : (o : Option Quote) (allow : Bool) (rest : List ℕ) → opened o ++ opening o (settled o allow rest) ≡ mark (settled o allow rest) ∷ []
+opened-once : (o : Option Quote) (allow : Bool) (rest : List ℕ) → opened o ++ opening o (settled o allow rest) ≡ mark (settled o allow rest) ∷ []
 opened-once (Some q) allow rest = refl
 opened-once None allow rest = refl
 
@@ -67,12 +66,9 @@ pub literal-printed : (o : Option Quote) (allow ascii : Bool) (bytes : List ℕ)
 literal-printed o allow ascii bytes last e =
     ap (λ b. (opened o ++ (opening o (settled o allow bytes) ++ body (settled o allow bytes) ascii bytes)) ++ (b ∷ [])) e ∙ literal-parts o allow ascii bytes
 
-pub parts-length : (o : Option Quote) (allow ascii : Bool) (bytes : List ℕ) →
+pub parts_length : (o : Option Quote) (allow ascii : Bool) (bytes : List ℕ) →
     length (opened o) + length (opening o (settled o allow bytes) ++ body (settled o allow bytes) ascii bytes) + 1 ≡ length (quoted (settled o allow bytes) ascii bytes)
-parts-length o allow ascii bytes =
+parts_length o allow ascii bytes =
     let q = settled o allow bytes in
     let x = ap length (literal-parts o allow ascii bytes) in
     omega (arith, length-append (opened o ++ (opening o q ++ body q ascii bytes)) (mark q ∷ []), length-append (opened o) (opening o q ++ body q ascii bytes))
-
-pub fits_as : (held bytes : List ℕ) (flag lone : Bool) → (text_answer held flag).number ≡ 0 → bytes ≡ held → lone ≡ flag → Fit lone bytes × (length bytes ≤ 16384)
-fits_as held bytes flag lone h e f = rw (e, f) (text-fits held flag h)

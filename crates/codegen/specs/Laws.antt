@@ -10,7 +10,7 @@ use Rattle.literal.specs.Quotes.{permitted}
 use Rattle.text.specs.declared.well_formed.Encoding.TheVariants.{Utf8}
 use Rattle.text.specs.Sequence.{code_points}
 use Rattle.text.specs.Wtf8.{WellFormed}
-use Rattle.codegen.specs.declared.options.CodegenOptions.{CodegenOptions}
+use Rattle.options.specs.declared.CodegenOptions.{CodegenOptions}
 use Rattle.codegen.specs.Strings.{source_text, quoted, literal_bytes}
 
 -- the UTF-16 code units of a text

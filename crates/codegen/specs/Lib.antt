@@ -1,5 +1,6 @@
 pub mod Classes
 pub mod Turns
+pub mod Room
 pub mod Cursor
 pub mod Strings
 pub mod Laws

@@ -2,7 +2,7 @@
 use Rattle.std.specs.Prelude.{◌≡◌, ℕ, Bool, true, false, List, [], ◌∷◌}
 use Rattle.refusal.specs.Returned.{answer, done}
 use Rattle.text.specs.Answers.{text_answer, raw_answer, template_answer}
-use Rattle.codegen.specs.declared.options.CodegenOptions.{CodegenOptions}
+use Rattle.options.specs.declared.CodegenOptions.{CodegenOptions}
 use Rattle.codegen.specs.Strings.{literal_bytes}
 use Rattle.codegen.specs.RawTexts.{piece_bytes, regex_bytes}
 

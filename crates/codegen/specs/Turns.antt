@@ -23,6 +23,12 @@ takes (Plain n) = n
 takes (Escaped e c n) = n
 takes Tag = 2
 
+-- how many bytes are printed
+abbrev pub printed_size : Turn → ℕ
+printed_size (Plain n) = n
+printed_size (Escaped e c n) = length (0x5C ∷ behind c e)
+printed_size Tag = 3
+
 abbrev pub puts : List ℕ → Turn → List ℕ
 puts s (Plain n) = take n s
 puts s (Escaped e c n) = 0x5C ∷ behind c e

@@ -1,5 +1,5 @@
 //! Which quotes give the shortest literal.
-ghost use Rattle.std.specs.Prelude.{◌≡◌, ℕ, ◌+◌, ◌<◌, ◌≤◌, ◌&&◌, ◌||◌, length, if◌then◌else◌, ◌==◌, nat_le};
+ghost use Rattle.std.specs.Prelude.{◌≡◌, ◌+◌, ◌<◌, ◌≤◌, ◌&&◌, ◌||◌, length, if◌then◌else◌, ◌==◌, nat_le};
 ghost use Rattle.std.proofs.Math.Utf8.{encodes};
 ghost use Rattle.ecma262.specs.declared.Quote.TheVariants.{Single, Double, Backtick};
 ghost use Rattle.literal.specs.Quotes.{chosen};
@@ -10,7 +10,7 @@ use ecma262::Quote;
 use text::byte_at;
 
 // What each quote costs; each line feed takes 1 off the backtick's cost.
-#[derive(Clone, Copy)]
+#[derive(Clone, Copy, Default)]
 struct Costs {
     single: usize,
     double: usize,
@@ -18,53 +18,40 @@ struct Costs {
     lines: usize,
 }
 
-// The costs with one more byte, before the byte next.
-fn with_byte(costs: Costs, b: u8, next: u32) -> Costs
-    requires { (costs.single < 65536) × (costs.double < 65536) × (costs.backtick < 65536) × (costs.lines < 65536) }
-    ensures single { result.single ≡ costs.single + (if b == 0x27 then 1 else 0) }
-    ensures double { result.double ≡ costs.double + (if b == 0x22 then 1 else 0) }
-    ensures backtick { result.backtick ≡ costs.backtick + (if b == 0x60 || b == 0x24 && next == 0x7B then 1 else 0) }
-    ensures lines { result.lines ≡ costs.lines + (if b == 0x0A then 1 else 0) }
-{
-    let mut costs = costs;
-    match b {
-        b'\n' => {
-            costs.lines += 1;
+impl Costs {
+    // One more byte, before the byte next.
+    fn add(&mut self, b: u8, next: u32)
+        requires { (self.old.single < 65536) × (self.old.double < 65536) × (self.old.backtick < 65536) × (self.old.lines < 65536) }
+        ensures single { self.new.single ≡ self.old.single + (if b == 0x27 then 1 else 0) }
+        ensures double { self.new.double ≡ self.old.double + (if b == 0x22 then 1 else 0) }
+        ensures backtick { self.new.backtick ≡ self.old.backtick + (if b == 0x60 || b == 0x24 && next == 0x7B then 1 else 0) }
+        ensures lines { self.new.lines ≡ self.old.lines + (if b == 0x0A then 1 else 0) }
+    {
+        match b {
+            b'\n' => self.lines += 1,
+            b'\'' => self.single += 1,
+            b'"' => self.double += 1,
+            b'`' => self.backtick += 1,
+            b'$' if next == OPENING_BRACE => self.backtick += 1,
+            _ => {}
         }
-        b'\'' => {
-            costs.single += 1;
-        }
-        b'"' => {
-            costs.double += 1;
-        }
-        b'`' => {
-            costs.backtick += 1;
-        }
-        b'$' => {
-            if next == OPENING_BRACE {
-                costs.backtick += 1;
-            }
-        }
-        _ => {}
     }
-    costs
-}
 
-// The cheapest permitted quote; at a tie the backtick, then the double quote.
-fn cheapest(costs: Costs, allow_backtick: bool) -> Quote
-    requires { (costs.single < 65536) × (costs.double < 65536) × (costs.backtick < 65536) × (costs.lines < 65536) }
-    ensures { result ≡ (if allow_backtick && nat_le costs.backtick ((if nat_le costs.double costs.single then costs.double else costs.single) + costs.lines) then Backtick else (if nat_le costs.double costs.single then Double else Single)) }
-{
-    if costs.double <= costs.single {
-        if allow_backtick && costs.backtick <= costs.double + costs.lines {
+    // The cheapest permitted quote; at a tie the backtick, then the double quote.
+    fn cheapest(&self, allow_backtick: bool) -> Quote
+        requires { (self.now.single < 65536) × (self.now.double < 65536) × (self.now.lines < 65536) }
+        ensures { result ≡ (if allow_backtick && nat_le self.now.backtick ((if nat_le self.now.double self.now.single then self.now.double else self.now.single) + self.now.lines) then Backtick else (if nat_le self.now.double self.now.single then Double else Single)) }
+    {
+        let (plain, cost) = if self.double <= self.single {
+            (Quote::Double, self.double)
+        } else {
+            (Quote::Single, self.single)
+        };
+        if allow_backtick && self.backtick <= cost + self.lines {
             Quote::Backtick
         } else {
-            Quote::Double
+            plain
         }
-    } else if allow_backtick && costs.backtick <= costs.single + costs.lines {
-        Quote::Backtick
-    } else {
-        Quote::Single
     }
 }
 
@@ -74,17 +61,10 @@ pub fn choose_quote(bytes: &[u8], allow_backtick: bool) -> Quote
     requires small { length bytes.now ≤ 16384 }
     ensures { result ≡ chosen allow_backtick (code_points bytes.now) }
 {
-    let mut costs = Costs {
-        single: 0,
-        double: 0,
-        backtick: 0,
-        lines: 0,
-    };
-    let mut i = 0;
-    while i < bytes.len() {
-        let b = bytes[i];
-        i += 1;
-        costs = with_byte(costs, b, byte_at(bytes, i));
+    let mut costs = Costs::default();
+    // By place, to see the next byte too.
+    for (i, b) in bytes.iter().enumerate() {
+        costs.add(*b, byte_at(bytes, i + 1));
     }
-    cheapest(costs, allow_backtick)
+    costs.cheapest(allow_backtick)
 }

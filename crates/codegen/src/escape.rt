@@ -69,12 +69,12 @@ static ESCAPES: [Escape; 256] = [
     No, No, No, No, No, No, No, No, No, No, No, No, No, No, No, No, // F
 ];
 
+// A copy with an entry replaced, as the next one with several: the tables are to be made so.
 // As `ESCAPES`, for a text with lone surrogates: ED leads to them.
 fn escapes_wtf8() -> [Escape; 256]
     ensures { result ≡ table_of false true }
 {
-    let mut table = [No; 256];
-    table.copy_from_slice(&ESCAPES);
+    let mut table = ESCAPES;
     table[0xED] = SU;
     table
 }
@@ -83,32 +83,51 @@ fn escapes_wtf8() -> [Escape; 256]
 fn escapes_ascii_only() -> [Escape; 256]
     ensures { result ≡ table_of true false }
 {
-    let mut table = [No; 256];
-    table.copy_from_slice(&ESCAPES);
+    let mut table = ESCAPES;
     table[0xC0..0x100].copy_from_slice(&[UC; 0x40]);
     table[0xED] = SU;
     table
 }
 
-/// The table for these options and this text, made once for a print where it is not `ESCAPES` itself.
-pub fn own_table(ascii_only: bool, lone: bool) -> Option<[Escape; 256]>
-    ensures { table_or result ≡ table_of ascii_only lone }
-{
-    if ascii_only {
-        Some(escapes_ascii_only())
-    } else if lone {
-        Some(escapes_wtf8())
-    } else {
-        None
+/// The table for an option and a text, made once for a print where it is not `ESCAPES` itself.
+#[derive(Drop)]
+pub struct EscapeTable {
+    own: Option<[Escape; 256]>,
+    pub ascii_only: bool,
+    pub lone: bool,
+    ghost is_the_table: { table_or own ≡ table_of ascii_only lone },
+}
+
+impl EscapeTable {
+    pub fn new(ascii_only: bool, lone: bool) -> EscapeTable
+        ensures option { result.ascii_only ≡ ascii_only }
+        ensures text { result.lone ≡ lone }
+    {
+        let own = if ascii_only {
+            Some(escapes_ascii_only())
+        } else if lone {
+            Some(escapes_wtf8())
+        } else {
+            None
+        };
+        EscapeTable {
+            own,
+            ascii_only,
+            lone,
+        }
+    }
+
+    /// The class of each byte.
+    pub fn classes(&self) -> &[Escape; 256]
+        ensures { result.now ≡ table_of self.now.ascii_only self.now.lone }
+    {
+        table_or_escapes(&self.own)
     }
 }
 
-/// The table that was made, or else `ESCAPES`.
-pub fn table_or_escapes(own: &Option<[Escape; 256]>) -> &[Escape; 256]
+// The table that was made, or else `ESCAPES`.
+fn table_or_escapes(own: &Option<[Escape; 256]>) -> &[Escape; 256]
     ensures { result.now ≡ table_or own.now }
 {
-    match own {
-        Some(table) => table,
-        None => &ESCAPES,
-    }
+    own.as_ref().unwrap_or(&ESCAPES)
 }

@@ -1,12 +1,12 @@
 //! Escape sequences, printed whole or not at all.
-ghost use Rattle.std.specs.Prelude.{◌≡◌, ◌/◌, ◌%◌, ◌<◌, [], ◌∷◌};
+ghost use Rattle.std.specs.Prelude.{◌≡◌, ◌/◌, ◌%◌, ◌<◌, ◌≤◌, [], ◌∷◌, length};
 ghost use Rattle.literal.specs.Escapes.{behind, hex_digit};
 ghost use Rattle.buffer.specs.Printing.{Prints};
 
 use buffer::{BufferFault, CodeBuffer};
 use literal::{EscapeSequence, HexCase};
 
-// The digit of n, below 16, with these letters.
+// The digit of n, below 16, with these letters: the library's digits have one case alone.
 fn hex_digit(letters: HexCase, n: u32) -> u8
     requires { n < 16 }
     ensures { result ≡ hex_digit letters n }
@@ -32,6 +32,19 @@ fn four_hex_digits(letters: HexCase, c: u32) -> [u8; 4]
         hex_digit(letters, c / 0x10 % 0x10),
         hex_digit(letters, c % 0x10),
     ]
+}
+
+/// How many bytes an escape of the character c has.
+pub fn escape_size(c: u32, e: EscapeSequence) -> usize
+    ensures is { result ≡ length (0x5C ∷ behind c e) }
+    ensures small { result ≤ 10 }
+{
+    match e {
+        EscapeSequence::Null | EscapeSequence::Character(_) => 2,
+        EscapeSequence::Hex => 4,
+        EscapeSequence::Unicode(_) => 6,
+        EscapeSequence::CodePoint => if c < 0x100000 { 9 } else { 10 }
+    }
 }
 
 /// Prints an escape of the character c.

@@ -8,7 +8,7 @@ use refusal::Refusal;
 use text::TextFault;
 
 /// The fault of the layer that refused, whole.
-#[derive(Clone, Copy)]
+#[derive(Clone, Copy, Debug, PartialEq)]
 pub enum PrintFault {
     /// The bytes are no text, name or raw text of their kind.
     Text(TextFault),
@@ -32,14 +32,14 @@ impl From<BufferFault> for PrintFault {
     }
 }
 
-impl PrintFault {
+impl From<PrintFault> for Refusal {
+    ghost from_gives = { λ fault refusal. refusal ≡ tells fault };
+
     /// What the layer told.
-    pub fn refusal(self) -> Refusal
-        ensures is_what_the_layer_told { result ≡ tells self }
-    {
-        match self {
-            PrintFault::Text(fault) => fault.refusal(),
-            PrintFault::Buffer(fault) => fault.refusal(),
+    fn from(fault: PrintFault) -> Refusal {
+        match fault {
+            PrintFault::Text(fault) => Refusal::from(fault),
+            PrintFault::Buffer(fault) => Refusal::from(fault),
         }
     }
 }

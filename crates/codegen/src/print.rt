@@ -1,198 +1,171 @@
-//! String literals, printed whole or not at all.
-ghost use Rattle.std.specs.Prelude.{◌≡◌, ℕ, ◌+◌, ◌*◌, ◌<◌, ◌≤◌, true, false, cond, List, [], ◌∷◌, ◌++◌, length};
-ghost use Rattle.std.proofs.Math.Utf8.{encodes};
-ghost use Rattle.ecma262.specs.Units.{mark};
-ghost use Rattle.literal.specs.Escapes.{behind};
-ghost use Rattle.text.specs.Sequence.{code_points};
-ghost use Rattle.buffer.specs.Printing.{Prints, Appends};
-ghost use Rattle.codegen.specs.Classes.{table_of};
-ghost use Rattle.codegen.specs.Cursor.{settled, opening, opened};
-ghost use Rattle.codegen.specs.Strings.{quoted, Needed};
+//! The literal of a text as a whole.
+ghost use Rattle.std.specs.Prelude.{◌≡◌, ◌+◌, ◌≤◌, true, ◌++◌, length};
+ghost use Rattle.std.proofs.Props.{props};
+ghost use Rattle.ecma262.specs.declared.Quote.TheVariants.{Backtick};
+ghost use Rattle.text.specs.Answers.{text_answer};
+ghost use Rattle.buffer.specs.Printing.{Appends};
+ghost use Rattle.codegen.specs.Strings.{quote_asked, settled, opening, opened, quoted, literal_in};
 ghost use Rattle.codegen.specs.Turns.{Fit, body};
+ghost use Rattle.codegen.specs.Room.{HasRoom};
 
 use crate::costs::choose_quote;
-use crate::state::{PrintStringState, print_with_room, quote_or_double};
-use crate::turn::{Escaping, Turn, next_turn, quote_byte};
-use buffer::{BufferFault, CodeBuffer};
+use crate::escape::EscapeTable;
+use crate::room::print_with_room;
+use crate::state::PrintStringState;
+use crate::turn::Escaping;
+use crate::whole::Printable;
+use buffer::CodeBuffer;
 use ecma262::Quote;
-use literal::EscapeSequence;
+use options::CodegenOptions;
 
-// The bytes of an escape of c.
-fn escape_size(c: u32, e: EscapeSequence) -> usize
-    ensures is { result ≡ length (0x5C ∷ behind c e) }
-    ensures small { result ≤ 10 }
-{
-    match e {
-        EscapeSequence::Null => 2,
-        EscapeSequence::Character(_) => 2,
-        EscapeSequence::Hex => 4,
-        EscapeSequence::Unicode(_) => 6,
-        EscapeSequence::CodePoint => { if c < 0x100000 { 9 } else { 10 } }
-    }
+/// How texts are written as literals.
+#[derive(Clone, Copy)]
+pub struct StringStyle {
+    /// The quote, unless the text is to choose it.
+    pub quote: Option<Quote>,
+    /// Whether the text may choose the backtick.
+    pub allow_backtick: bool,
+    pub ascii_only: bool,
 }
 
-// How many bytes a text becomes between the quotes.
-fn body_size(escaping: Escaping, q: Quote, bytes: &[u8]) -> usize
-    requires table { escaping.table.now ≡ table_of escaping.ascii_only escaping.lone }
-    requires fit { Fit escaping.lone bytes.now }
-    requires small { length bytes.now ≤ 16384 }
-    ensures is { result ≡ length (body q escaping.entry.ascii_only bytes.now) }
-    ensures small { result ≤ 163840 }
-{
-    let mut size = 0;
-    let mut at = 0;
-    while at < bytes.len() {
-        match next_turn(escaping, q, bytes, at) {
-            Turn::Plain(n) => {
-                size += n;
-                at += n;
-            }
-            Turn::Escaped(e, c, n) => {
-                size += escape_size(c, e);
-                at += n;
-            }
-            Turn::Tag => {
-                size += 3;
-                at += 2;
-            }
+impl StringStyle {
+    /// Without minify the quote is the one that the options ask for; under minify the text decides.
+    pub fn asked(options: CodegenOptions, allow_backtick: bool) -> StringStyle
+        ensures { result ≡ record { quote = quote_asked options; allow_backtick = allow_backtick; ascii_only = options.ascii_only } }
+    {
+        let quote = if options.minify {
+            None
+        } else if options.single_quote {
+            Some(Quote::Single)
+        } else {
+            Some(Quote::Double)
+        };
+        StringStyle {
+            quote,
+            allow_backtick,
+            ascii_only: options.ascii_only,
         }
     }
-    size
-}
 
-// Prints what a text becomes between the quotes, and before it the opening quote where that is still to be chosen; answers the quote.
-fn print_body<B: CodeBuffer>(
-    code: &mut B,
-    escaping: Escaping,
-    quote: Option<Quote>,
-    allow_backtick: bool,
-    bytes: &[u8],
-) -> Quote
-    requires table { escaping.table.now ≡ table_of escaping.ascii_only escaping.lone }
-    requires fit { Fit escaping.lone bytes.now }
-    requires small { length bytes.now ≤ 16384 }
-    requires room { length (B.CodeBuffer.bytes code.old) + length (opening quote (settled quote allow_backtick bytes.now) ++ body (settled quote allow_backtick bytes.now) escaping.ascii_only bytes.now) ≤ B.CodeBuffer.limit_of code.old }
-    ensures answers { result ≡ settled quote allow_backtick bytes.now }
-    ensures appends { Appends B.CodeBuffer code.old code.new (opening quote (settled quote allow_backtick bytes.now) ++ body (settled quote allow_backtick bytes.now) escaping.entry.ascii_only bytes.now) }
-{
-    let mut state = PrintStringState {
-        bytes,
-        chunk_start: 0,
-        at: 0,
-        quote,
-        allow_backtick,
-    };
-    while state.at < bytes.len() {
-        state.advance(code, escaping);
-    }
-    state.flush(code);
-    quote_or_double(state.quote)
-}
-
-// Prints the opening quote where it is known.
-fn print_opening<B: CodeBuffer>(code: &mut B, quote: Option<Quote>)
-    requires room { length (B.CodeBuffer.bytes code.old) + length (opened quote) ≤ B.CodeBuffer.limit_of code.old }
-    ensures appends { Appends B.CodeBuffer code.old code.new (opened quote) }
-{
-    match quote {
-        Some(q) => {
-            print_with_room(code, &[quote_byte(q)]);
+    /// In backticks.
+    pub fn template(options: CodegenOptions) -> StringStyle
+        ensures { result ≡ record { quote = Some Backtick; allow_backtick = true; ascii_only = options.ascii_only } }
+    {
+        StringStyle {
+            quote: Some(Quote::Backtick),
+            allow_backtick: true,
+            ascii_only: options.ascii_only,
         }
-        None => {}
     }
 }
 
-// Prints a literal that there is room for.
-fn print_quoted<B: CodeBuffer>(
-    code: &mut B,
-    escaping: Escaping,
-    quote: Option<Quote>,
-    allow_backtick: bool,
-    bytes: &[u8],
-)
-    requires table { escaping.table.now ≡ table_of escaping.ascii_only escaping.lone }
-    requires fit { Fit escaping.lone bytes.now }
-    requires small { length bytes.now ≤ 16384 }
-    requires room { length (B.CodeBuffer.bytes code.old) + length (quoted (settled quote allow_backtick bytes.now) escaping.ascii_only bytes.now) ≤ B.CodeBuffer.limit_of code.old }
-    ensures appends { Appends B.CodeBuffer code.old code.new (quoted (settled quote allow_backtick bytes.now) escaping.entry.ascii_only bytes.now) }
-{
-    print_opening(code, quote);
-    let q = print_body(code, escaping, quote, allow_backtick, bytes);
-    print_with_room(code, &[quote_byte(q)]);
+/// The bytes of a text with its flag.
+#[derive(Clone, Copy)]
+pub struct TextBytes<'t> {
+    pub bytes: &'t [u8],
+    pub lone: bool,
+    ghost checked: { (text_answer bytes.now lone).number ≡ 0 },
 }
 
-// The quote, chosen by the text where it is not known.
-fn settled_quote(quote: Option<Quote>, allow_backtick: bool, bytes: &[u8]) -> Quote
-    requires characters { encodes (code_points bytes.now) ≡ bytes.now }
-    requires small { length bytes.now ≤ 16384 }
-    ensures { result ≡ settled quote allow_backtick bytes.now }
-{
-    match quote {
-        Some(q) => q,
-        None => choose_quote(bytes, allow_backtick),
-    }
+/// The literal of a text.
+#[derive(Clone, Copy)]
+pub struct Literal<'t> {
+    pub escaping: Escaping<'t>,
+    pub quote: Option<Quote>,
+    pub allow_backtick: bool,
+    pub bytes: &'t [u8],
+    ghost fit: { Fit escaping.lone bytes.now } by { Prim.hlevel props },
+    ghost small: { length bytes.now ≤ 16384 },
 }
 
-/// How many bytes a literal has.
-pub fn literal_size(
-    escaping: Escaping,
-    quote: Option<Quote>,
-    allow_backtick: bool,
-    bytes: &[u8],
-) -> usize
-    requires table { escaping.table.now ≡ table_of escaping.ascii_only escaping.lone }
-    requires fit { Fit escaping.lone bytes.now }
-    requires small { length bytes.now ≤ 16384 }
-    ensures is { result ≡ length (quoted (settled quote allow_backtick bytes.now) escaping.entry.ascii_only bytes.now) }
-    ensures small { result ≤ 65538 }
-{
-    let q = settled_quote(quote, allow_backtick, bytes);
-    body_size(escaping, q, bytes) + 2
-}
-
-// What a literal needs, where it does not fit. It is measured only where four times the text, and the quotes, do not fit.
-fn need_if_too_long<B: CodeBuffer>(
-    code: &B,
-    escaping: Escaping,
-    quote: Option<Quote>,
-    allow_backtick: bool,
-    bytes: &[u8],
-) -> Option<usize>
-    requires table { escaping.table.now ≡ table_of escaping.ascii_only escaping.lone }
-    requires fit { Fit escaping.lone bytes.now }
-    requires small { length bytes.now ≤ 16384 }
-    ensures { Needed (length (B.CodeBuffer.bytes code.now)) (B.CodeBuffer.limit_of code.now) (length (quoted (settled quote allow_backtick bytes.now) escaping.entry.ascii_only bytes.now)) result }
-{
-    let held = code.held();
-    let limit = code.limit();
-    if held + 4 * bytes.len() + 2 <= limit {
-        return None;
-    }
-    let need = held + literal_size(escaping, quote, allow_backtick, bytes);
-    if need > limit {
-        return Some(need);
-    }
-    None
-}
-
-/// Prints a literal, or refuses it whole.
-pub fn print_string_body<B: CodeBuffer>(
-    code: &mut B,
-    escaping: Escaping,
-    quote: Option<Quote>,
-    allow_backtick: bool,
-    bytes: &[u8],
-) -> Result<(), BufferFault>
-    requires table { escaping.table.now ≡ table_of escaping.ascii_only escaping.lone }
-    requires fit { Fit escaping.lone bytes.now }
-    requires small { length bytes.now ≤ 16384 }
-    ensures prints { Prints B.CodeBuffer code.old code.new (quoted (settled quote allow_backtick bytes.now) escaping.entry.ascii_only bytes.now) result }
-{
-    match need_if_too_long(code, escaping, quote, allow_backtick, bytes) {
-        Some(need) => Err(BufferFault::Full(need)),
-        None => {
-            print_quoted(code, escaping, quote, allow_backtick, bytes);
-            Ok(())
+impl<'t> Literal<'t> {
+    /// The literal of a text, by the table that was made for its style and flag.
+    pub fn new(table: &'t EscapeTable, style: StringStyle, text: TextBytes<'t>) -> Literal<'t>
+        requires for_the_style { table.now.ascii_only ≡ style.ascii_only }
+        requires for_the_text { table.now.lone ≡ text.lone }
+        ensures { ⟦<Literal<'t> as Printable>⟧.code result ≡ literal_in style text.entry.bytes.now }
+    {
+        Literal {
+            escaping: Escaping::new(table),
+            quote: style.quote,
+            allow_backtick: style.allow_backtick,
+            bytes: text.bytes,
         }
+    }
+
+    // The quote, chosen by the text where it is not known.
+    fn settled_quote(&self) -> Quote
+        ensures { result ≡ settled self.now.quote self.now.allow_backtick self.now.bytes.now }
+    {
+        // A match, since the closure of an unwrap_or_else would need clauses of its own.
+        match self.quote {
+            Some(q) => q,
+            None => choose_quote(self.bytes, self.allow_backtick),
+        }
+    }
+
+    // How many bytes the text becomes between quotes q.
+    fn body_size(&self, q: Quote) -> usize
+        ensures is { result ≡ length (body q self.now.escaping.ascii_only self.now.bytes.now) }
+        ensures small { result ≤ 65536 }
+    {
+        // By place: an iterator over turns would serve here alone, since the printer's cursor settles the quote on the way.
+        let mut size = 0;
+        let mut at = 0;
+        while at < self.bytes.len() {
+            let turn = self.escaping.next_turn(q, self.bytes, at);
+            size += turn.size();
+            at += turn.takes();
+        }
+        size
+    }
+
+    // Prints the opening quote where it is known.
+    fn print_opening<B: CodeBuffer>(&self, code: &mut B)
+        requires room { HasRoom B.CodeBuffer code.old (opened self.now.quote) }
+        ensures appends { Appends B.CodeBuffer code.old code.new (opened self.now.quote) }
+    {
+        if let Some(q) = self.quote {
+            print_with_room(code, &[q.mark()]);
+        }
+    }
+
+    // Prints what the text becomes between the quotes, and before it the opening quote where that is still to be chosen; answers the quote.
+    fn print_body<B: CodeBuffer>(&self, code: &mut B) -> Quote
+        requires room { let q = settled self.now.quote self.now.allow_backtick self.now.bytes.now in HasRoom B.CodeBuffer code.old (opening self.now.quote q ++ body q self.now.escaping.ascii_only self.now.bytes.now) }
+        ensures answers { result ≡ settled self.now.quote self.now.allow_backtick self.now.bytes.now }
+        ensures appends { let q = settled self.now.quote self.now.allow_backtick self.now.bytes.now in Appends B.CodeBuffer code.old code.new (opening self.now.quote q ++ body q self.now.escaping.ascii_only self.now.bytes.now) }
+    {
+        let mut state = PrintStringState {
+            literal: self,
+            chunk_start: 0,
+            at: 0,
+            quote: self.quote,
+        };
+        // By the cursor, as in the ported crate; no iterator, since a step may settle the quote, which needs the buffer.
+        while state.at < self.bytes.len() {
+            state.advance(code);
+        }
+        state.flush(code);
+        // It is settled here.
+        state.quote.unwrap_or(Quote::Double)
+    }
+}
+
+impl<'t> Printable for Literal<'t> {
+    ghost code = { λ l. quoted (settled l.quote l.allow_backtick l.bytes.now) l.escaping.ascii_only l.bytes.now };
+
+    fn size_bound(&self) -> usize {
+        4 * self.bytes.len() + 2
+    }
+
+    fn size(&self) -> usize {
+        self.body_size(self.settled_quote()) + 2
+    }
+
+    fn print_to<B: CodeBuffer>(&self, out: &mut B) {
+        self.print_opening(out);
+        let q = self.print_body(out);
+        print_with_room(out, &[q.mark()]);
     }
 }

@@ -1,14 +1,13 @@
-//! The kinds of raw text: what each is checked for, and the steps in which it is printed.
+//! The kinds of raw text, and what each is checked for.
 ghost use Rattle.std.specs.Prelude.{◌≡◌};
 ghost use Rattle.text.specs.Answers.{returned};
-ghost use Rattle.codegen.specs.RawKinds.{check_of, style_of};
+ghost use Rattle.codegen.specs.RawKinds.{check_of};
 
-use crate::raw_turn::RawStyle;
-use literal::NonAsciiEscape;
 use text::{TextFault, check_name, check_raw_text, check_template_text};
 
 /// What raw text is printed as.
-#[derive(Clone, Copy)]
+// Matched once for its check and once for its style: callers and C choose it by value.
+#[derive(Clone, Copy, Debug, PartialEq)]
 pub enum RawKind {
     /// A piece of an untagged template.
     Piece,
@@ -28,33 +27,7 @@ pub fn check_kind(kind: RawKind, bytes: &[u8]) -> Result<(), TextFault>
 {
     match kind {
         RawKind::Piece => check_template_text(bytes),
-        RawKind::TaggedPiece => check_raw_text(bytes),
-        RawKind::Directive => check_raw_text(bytes),
-        RawKind::Pattern => check_raw_text(bytes),
+        RawKind::TaggedPiece | RawKind::Directive | RawKind::Pattern => check_raw_text(bytes),
         RawKind::Name => check_name(bytes),
-    }
-}
-
-fn style(dollars: bool, ascii_only: bool, mode: NonAsciiEscape, tags: bool) -> RawStyle
-    ensures { result ≡ record { dollars = dollars; ascii_only = ascii_only; mode = mode; tags = tags } }
-{
-    RawStyle {
-        dollars,
-        ascii_only,
-        mode,
-        tags,
-    }
-}
-
-// The steps in which this kind is printed.
-pub fn style_of(kind: RawKind, minify: bool, ascii_only: bool) -> RawStyle
-    ensures { result ≡ style_of kind minify ascii_only }
-{
-    match kind {
-        RawKind::Piece => style(minify, ascii_only, NonAsciiEscape::TemplateRaw, true),
-        RawKind::TaggedPiece => style(false, false, NonAsciiEscape::TemplateRaw, true),
-        RawKind::Directive => style(false, ascii_only, NonAsciiEscape::Directive, false),
-        RawKind::Pattern => style(false, ascii_only, NonAsciiEscape::RegExp, false),
-        RawKind::Name => style(false, ascii_only, NonAsciiEscape::Identifier, false),
     }
 }

@@ -1,16 +1,18 @@
-//! One turn of the raw printer: what raw text asks for at a place.
-ghost use Rattle.std.specs.Prelude.{◌≡◌, ℕ, ◌+◌, ◌<◌, ◌≤◌, false, not, ◌&&◌, ◌||◌, [], ◌∷◌, length, drop, slice_index};
-ghost use Rattle.ecma262.specs.Lookahead.{opens};
-ghost use Rattle.literal.specs.Escapes.{tag};
-ghost use Rattle.literal.specs.Raw.{continues_lines, loses_backslash, is_separator};
-ghost use Rattle.codegen.specs.RawTurns.{RawTurned, goes_before};
-ghost use Rattle.codegen.specs.Turns.{Fit};
+//! One turn of the raw printer: what raw text asks for at a place, and what is printed there.
+ghost use Rattle.std.specs.Prelude.{◌≡◌, ◌+◌, ◌≤◌, length};
+ghost use Rattle.ecma262.specs.Units.{utf16};
+ghost use Rattle.literal.specs.Raw.{wide, unit_escapes, wide_escape};
+ghost use Rattle.buffer.specs.Printing.{Appends};
+ghost use Rattle.codegen.specs.RawTurns.{raw_takes, raw_text, raw_size};
+ghost use Rattle.codegen.specs.Room.{HasRoom};
 
-use crate::turn::is_script_close_tag;
-use literal::NonAsciiEscape;
-use text::{byte_at, decode};
+use crate::escape_sequence::escape_size;
+use crate::room::{print_escape, print_with_room};
+use buffer::CodeBuffer;
+use literal::{EscapeSequence, HexCase, NonAsciiEscape};
 
 /// What is done at a place of raw text.
+// A type of its own beside `Turn`: backslashes go and lines go on here, and a string's turn is right in some quotes only.
 #[derive(Clone, Copy)]
 pub enum RawTurn {
     /// This many bytes stand for themselves.
@@ -25,115 +27,95 @@ pub enum RawTurn {
     Tag,
 }
 
-/// Which steps raw text is printed in.
-#[derive(Clone, Copy)]
-pub struct RawStyle {
-    /// A backslash before `$` goes where it is not needed.
-    pub dollars: bool,
-    /// Every character above U+007F is escaped.
-    pub ascii_only: bool,
-    /// What it is escaped for.
-    pub mode: NonAsciiEscape,
-    /// `</script` is broken.
-    pub tags: bool,
-}
-
-fn continues_lines(mode: NonAsciiEscape) -> bool
-    ensures { result ≡ continues_lines mode }
-{
-    match mode {
-        NonAsciiEscape::Identifier => false,
-        NonAsciiEscape::RegExp => false,
-        NonAsciiEscape::TemplateRaw => true,
-        NonAsciiEscape::Directive => true,
-    }
-}
-
-fn loses_backslash(mode: NonAsciiEscape) -> bool
-    ensures { result ≡ loses_backslash mode }
-{
-    match mode {
-        NonAsciiEscape::Identifier => false,
-        NonAsciiEscape::RegExp => true,
-        NonAsciiEscape::TemplateRaw => true,
-        NonAsciiEscape::Directive => true,
-    }
-}
-
-// U+2028 or U+2029.
-fn is_separator(c: u32) -> bool
-    ensures { result ≡ is_separator c }
-{
-    c == 0x2028 || c == 0x2029
-}
-
-// Whether the last backslash of an odd run goes before the bytes next and then after.
-fn goes_before(style: RawStyle, next: u32, after: u32) -> bool
-    ensures { result ≡ goes_before style.dollars style.ascii_only style.mode next after }
-{
-    if next == 0x24 && after != 0x7B && style.dollars {
-        return true;
-    }
-    next >= 0x80 && loses_backslash(style.mode) && style.ascii_only
-}
-
-// Whether a backslash goes that stands behind an odd run of backslashes, or not.
-fn backslash_goes(style: RawStyle, odd: bool, next: u32, after: u32) -> bool
-    ensures { result ≡ (not odd && goes_before style.dollars style.ascii_only style.mode next after) }
-{
-    !odd && goes_before(style, next, after)
-}
-
-// Whether c ends a line, behind a backslash, where that is to stay so.
-fn is_line_end(style: RawStyle, odd: bool, c: u32) -> bool
-    ensures { result ≡ (is_separator c && odd && continues_lines style.mode) }
-{
-    is_separator(c) && odd && continues_lines(style.mode)
-}
-
-fn breaks_tag(style: RawStyle, text: &[u8]) -> bool
-    ensures { result ≡ (opens tag text.now && style.tags) }
-{
-    is_script_close_tag(text) && style.tags
-}
-
-/// What is done at a place where a character begins, behind an odd run of backslashes or not.
-pub fn raw_turn(style: RawStyle, odd: bool, bytes: &[u8], at: usize) -> RawTurn
-    requires inside { at < length bytes.now }
-    requires fit { Fit false (drop at bytes.now) }
-    ensures { RawTurned style.dollars style.ascii_only style.mode style.tags odd (drop at bytes.now) result }
-{
-    let b = bytes[at];
-    if b >= 0x80 {
-        return wide_turn(style, odd, bytes, at);
-    }
-    if b == b'\\' {
-        if backslash_goes(style, odd, byte_at(bytes, at + 1), byte_at(bytes, at + 2)) {
-            return RawTurn::Drop;
-        }
-        return RawTurn::Keep(1);
-    }
-    if b == b'<' {
-        if breaks_tag(style, &bytes[at..]) {
-            return RawTurn::Tag;
+impl RawTurn {
+    /// How many bytes it takes.
+    pub fn takes(self) -> usize
+        ensures { result ≡ raw_takes self }
+    {
+        match self {
+            RawTurn::Keep(n) | RawTurn::Escaped(_, n) | RawTurn::LineEnd(n) => n,
+            RawTurn::Drop => 1,
+            RawTurn::Tag => 2,
         }
     }
-    RawTurn::Keep(1)
+
+    /// How many bytes it prints.
+    pub fn size(self, mode: NonAsciiEscape) -> usize
+        ensures { result ≡ raw_size mode self }
+    {
+        match self {
+            RawTurn::Keep(n) => n,
+            RawTurn::Drop => 0,
+            RawTurn::Escaped(c, _) => wide_size(mode, c),
+            RawTurn::LineEnd(_) => 2,
+            RawTurn::Tag => 3,
+        }
+    }
+
+    /// Prints what it puts in the place of what it takes, for which there is room: nothing, where that is kept.
+    pub fn print_to<B: CodeBuffer>(self, code: &mut B, mode: NonAsciiEscape)
+        requires room { HasRoom B.CodeBuffer code.old (raw_text mode self) }
+        ensures { Appends B.CodeBuffer code.old code.new (raw_text mode self) }
+    {
+        match self {
+            RawTurn::Keep(_) | RawTurn::Drop => {}
+            RawTurn::Escaped(c, _) => print_wide(code, mode, c),
+            RawTurn::LineEnd(_) => print_with_room(code, b"\\\n"),
+            RawTurn::Tag => print_with_room(code, b"<\\/"),
+        }
+    }
 }
 
-// The same at a character above U+007F.
-fn wide_turn(style: RawStyle, odd: bool, bytes: &[u8], at: usize) -> RawTurn
-    requires inside { at < length bytes.now }
-    requires fit { Fit false (drop at bytes.now) }
-    requires wide { 0x80 ≤ slice_index bytes.now at }
-    ensures { RawTurned style.dollars style.ascii_only style.mode style.tags odd (drop at bytes.now) result }
+// An escape of one UTF-16 unit.
+const UNIT: EscapeSequence = EscapeSequence::Unicode(HexCase::Upper);
+
+// The escape of a character above U+007F, outside of regular expressions.
+fn wide_sequence(c: u32) -> EscapeSequence
+    ensures { result ≡ wide c }
 {
-    let (c, n) = decode(bytes, at);
-    if !style.ascii_only {
-        return RawTurn::Keep(n);
+    if c <= 0xFFFF {
+        UNIT
+    } else {
+        EscapeSequence::CodePoint
     }
-    if is_line_end(style, odd, c) {
-        return RawTurn::LineEnd(n);
+}
+
+// How many bytes the escape of a character above U+007F has.
+// The mode is passed down and matched, here as in printing: a closed set, of which one alone differs.
+fn wide_size(mode: NonAsciiEscape, c: u32) -> usize
+    ensures { result ≡ length (wide_escape mode c) }
+{
+    match mode {
+        NonAsciiEscape::RegExp => if c < 0x10000 { 6 } else { 12 }
+        NonAsciiEscape::Identifier | NonAsciiEscape::TemplateRaw | NonAsciiEscape::Directive => {
+            escape_size(c, wide_sequence(c))
+        }
     }
-    RawTurn::Escaped(c, n)
+}
+
+// Prints the escape of a character above U+007F that there is room for.
+fn print_wide<B: CodeBuffer>(code: &mut B, mode: NonAsciiEscape, c: u32)
+    requires room { HasRoom B.CodeBuffer code.old (wide_escape mode c) }
+    ensures { Appends B.CodeBuffer code.old code.new (wide_escape mode c) }
+{
+    match mode {
+        NonAsciiEscape::RegExp => print_units(code, c),
+        NonAsciiEscape::Identifier | NonAsciiEscape::TemplateRaw | NonAsciiEscape::Directive => {
+            print_escape(code, c, wide_sequence(c))
+        }
+    }
+}
+
+// Prints the UTF-16 units of c, each as an escape, that there is room for.
+fn print_units<B: CodeBuffer>(code: &mut B, c: u32)
+    requires room { HasRoom B.CodeBuffer code.old (unit_escapes (utf16 c)) }
+    ensures { Appends B.CodeBuffer code.old code.new (unit_escapes (utf16 c)) }
+{
+    if c < 0x10000 {
+        print_escape(code, c, UNIT);
+    } else {
+        let rest = c - 0x10000;
+        print_escape(code, 0xD800 + rest / 0x400, UNIT);
+        print_escape(code, 0xDC00 + rest % 0x400, UNIT);
+    }
 }

@@ -1,12 +1,12 @@
 //! One turn of the printer: what the text asks for at a place. The byte handlers are a match here.
-ghost use Rattle.std.specs.Prelude.{◌≡◌, ℕ, ◌+◌, ◌<◌, ◌≤◌, ◌&&◌, ◌||◌, length, drop, if◌then◌else◌, Some, None, slice_index};
-ghost use Rattle.ecma262.specs.Lookahead.{opens, digit};
-ghost use Rattle.ecma262.specs.Units.{mark};
-ghost use Rattle.literal.specs.Escapes.{script, is_backtick, same_letter, tag};
-ghost use Rattle.codegen.specs.Classes.{class_in, table_of, short_of, wide_of, decides};
-ghost use Rattle.codegen.specs.Turns.{Fit, Decided, decides_at};
+ghost use Rattle.std.specs.Prelude.{◌≡◌, ◌<◌, length, drop, slice_index};
+ghost use Rattle.ecma262.specs.Lookahead.{opens};
+ghost use Rattle.literal.specs.Escapes.{tag};
+ghost use Rattle.codegen.specs.Classes.{class_in, table_of, short_of, wide_of};
+ghost use Rattle.codegen.specs.Turns.{Fit, Decided, decides_at, takes, printed_size};
 
-use crate::escape::Escape;
+use crate::escape::{Escape, EscapeTable};
+use crate::escape_sequence::escape_size;
 use ecma262::Quote;
 use literal::{EscapeSequence, HexCase};
 use text::{byte_at, decode, sequence_length};
@@ -34,78 +34,62 @@ pub enum Turn {
     Tag,
 }
 
-/// The classes of the bytes, by the table for these options and this text.
+impl Turn {
+    /// How many bytes of the text it takes.
+    pub fn takes(self) -> usize
+        ensures { result ≡ takes self }
+    {
+        match self {
+            Turn::Plain(n) => n,
+            Turn::Escaped(_, _, n) => n,
+            Turn::Tag => 2,
+        }
+    }
+
+    /// How many bytes are printed.
+    pub fn size(self) -> usize
+        ensures { result ≡ printed_size self }
+    {
+        match self {
+            Turn::Plain(n) => n,
+            Turn::Escaped(e, c, _) => escape_size(c, e),
+            Turn::Tag => 3,
+        }
+    }
+}
+
+/// How a text is escaped, with the table of the classes of its bytes.
 #[derive(Clone, Copy)]
 pub struct Escaping<'t> {
-    pub table: &'t [Escape; 256],
+    table: &'t [Escape; 256],
     pub ascii_only: bool,
     pub lone: bool,
-}
-
-/// The quote's byte.
-pub fn quote_byte(q: Quote) -> u8
-    ensures { result ≡ mark q }
-{
-    match q {
-        Quote::Single => b'\'',
-        Quote::Double => b'"',
-        Quote::Backtick => b'`',
-    }
-}
-
-fn is_backtick(q: Quote) -> bool
-    ensures { result ≡ is_backtick q }
-{
-    match q {
-        Quote::Single => false,
-        Quote::Double => false,
-        Quote::Backtick => true,
-    }
-}
-
-fn is_ascii_digit(b: u32) -> bool
-    ensures { result ≡ digit b }
-{
-    b >= 0x30 && b <= 0x39
-}
-
-fn some_if(t: bool, e: EscapeSequence) -> Option<EscapeSequence>
-    ensures { result ≡ (if t then Some e else None) }
-{
-    if t { Some(e) } else { None }
+    ghost is_the_table: { table.now ≡ table_of ascii_only lone },
 }
 
 // The escape of an ASCII character of this class before the byte next.
-fn short_escape(q: Quote, escape: Escape, next: u32) -> Option<EscapeSequence>
-    ensures { result ≡ short_of q escape next }
+fn short_escape(q: Quote, class: Escape, next: u32) -> Option<EscapeSequence>
+    ensures { result ≡ short_of q class next }
 {
-    match escape {
-        Escape::No => None,
-        Escape::NU => Some(if is_ascii_digit(next) {
-            EscapeSequence::Hex
-        } else {
-            EscapeSequence::Null
+    match class {
+        Escape::NU => Some(match next {
+            0x30..=0x39 => EscapeSequence::Hex,
+            _ => EscapeSequence::Null,
         }),
-        Escape::BE => Some(EscapeSequence::Hex),
+        Escape::BE | Escape::ES => Some(EscapeSequence::Hex),
         Escape::BK => Some(EscapeSequence::Character(b'b')),
         Escape::VT => Some(EscapeSequence::Character(b'v')),
         Escape::FF => Some(EscapeSequence::Character(b'f')),
-        Escape::NL => some_if(!is_backtick(q), EscapeSequence::Character(b'n')),
+        Escape::NL => (q != Quote::Backtick).then_some(EscapeSequence::Character(b'n')),
         Escape::CR => Some(EscapeSequence::Character(b'r')),
-        Escape::ES => Some(EscapeSequence::Hex),
         Escape::BS => Some(EscapeSequence::Character(b'\\')),
-        Escape::SQ => some_if(quote_byte(q) == b'\'', EscapeSequence::Character(b'\'')),
-        Escape::DQ => some_if(quote_byte(q) == b'"', EscapeSequence::Character(b'"')),
-        Escape::BQ => some_if(is_backtick(q), EscapeSequence::Character(b'`')),
-        Escape::DO => some_if(
-            is_backtick(q) && next == OPENING_BRACE,
+        Escape::SQ => (q == Quote::Single).then_some(EscapeSequence::Character(b'\'')),
+        Escape::DQ => (q == Quote::Double).then_some(EscapeSequence::Character(b'"')),
+        Escape::BQ => (q == Quote::Backtick).then_some(EscapeSequence::Character(b'`')),
+        Escape::DO => (q == Quote::Backtick && next == OPENING_BRACE).then_some(
             EscapeSequence::Character(b'$'),
         ),
-        Escape::LT => None,
-        Escape::LS => None,
-        Escape::NB => None,
-        Escape::SU => None,
-        Escape::UC => None,
+        Escape::No | Escape::LT | Escape::LS | Escape::NB | Escape::SU | Escape::UC => None,
     }
 }
 
@@ -113,49 +97,13 @@ fn short_escape(q: Quote, escape: Escape, next: u32) -> Option<EscapeSequence>
 fn wide_escape(ascii_only: bool, c: u32) -> Option<EscapeSequence>
     ensures { result ≡ wide_of ascii_only c }
 {
-    if c >= 0xD800 && c <= 0xDFFF {
-        Some(EscapeSequence::Unicode(HexCase::Lower))
-    } else if ascii_only {
-        if c < 0x10000 {
-            Some(EscapeSequence::Unicode(HexCase::Upper))
-        } else {
-            Some(EscapeSequence::CodePoint)
-        }
-    } else {
-        match c {
-            NBSP => Some(EscapeSequence::Hex),
-            LINE_SEPARATOR => Some(EscapeSequence::Unicode(HexCase::Upper)),
-            PARAGRAPH_SEPARATOR => Some(EscapeSequence::Unicode(HexCase::Upper)),
-            _ => None,
-        }
-    }
-}
-
-// The small letter w, or its capital.
-fn same_letter(w: u8, c: u8) -> bool
-    ensures { result ≡ same_letter w c }
-{
-    if c >= 0x41 && c <= 0x5A {
-        c as u32 + 0x20 == w as u32
-    } else {
-        c == w
-    }
-}
-
-// Whether the text here begins with script, in any case of the letters.
-fn is_script(next: &[u8]) -> bool
-    ensures { result ≡ opens script next.now }
-{
-    match next {
-        [a, b, c, d, e, f, ..] => {
-            same_letter(b's', *a)
-                && same_letter(b'c', *b)
-                && same_letter(b'r', *c)
-                && same_letter(b'i', *d)
-                && same_letter(b'p', *e)
-                && same_letter(b't', *f)
-        }
-        _ => false,
+    match c {
+        0xD800..=0xDFFF => Some(EscapeSequence::Unicode(HexCase::Lower)),
+        0..=0xFFFF if ascii_only => Some(EscapeSequence::Unicode(HexCase::Upper)),
+        _ if ascii_only => Some(EscapeSequence::CodePoint),
+        NBSP => Some(EscapeSequence::Hex),
+        LINE_SEPARATOR | PARAGRAPH_SEPARATOR => Some(EscapeSequence::Unicode(HexCase::Upper)),
+        _ => None,
     }
 }
 
@@ -163,69 +111,72 @@ fn is_script(next: &[u8]) -> bool
 pub fn is_script_close_tag(text: &[u8]) -> bool
     ensures { result ≡ opens tag text.now }
 {
-    if text.len() < 2 {
-        return false;
-    }
-    if text[0] != b'<' {
-        return false;
-    }
-    if text[1] != b'/' {
-        return false;
-    }
-    is_script(&text[2..])
+    text.len() >= 8 && text[..8].eq_ignore_ascii_case(b"</script")
 }
 
-// The class of the byte at a place.
-fn escape_at(escaping: Escaping, bytes: &[u8], at: usize) -> Escape
-    requires table { escaping.table.now ≡ table_of escaping.ascii_only escaping.lone }
-    requires inside { at < length bytes.now }
-    ensures { result ≡ class_in escaping.entry.ascii_only escaping.entry.lone (slice_index bytes.now at) }
-{
-    escaping.table[bytes[at] as usize]
-}
-
-/// Whether the quote in use decides what is printed at a place.
-pub fn quote_decides(escaping: Escaping, bytes: &[u8], at: usize) -> bool
-    requires table { escaping.table.now ≡ table_of escaping.ascii_only escaping.lone }
-    requires inside { at < length bytes.now }
-    ensures { result ≡ decides_at escaping.entry.ascii_only escaping.entry.lone bytes.now at }
-{
-    match escape_at(escaping, bytes, at) {
-        Escape::NL | Escape::SQ | Escape::DQ | Escape::BQ => true,
-        Escape::DO => byte_at(bytes, at + 1) == OPENING_BRACE,
-        _ => false,
-    }
-}
-
-/// What is done at a place where a character begins, in quotes q.
-pub fn next_turn(escaping: Escaping, q: Quote, bytes: &[u8], at: usize) -> Turn
-    requires table { escaping.table.now ≡ table_of escaping.ascii_only escaping.lone }
-    requires inside { at < length bytes.now }
-    requires fit { Fit escaping.lone (drop at bytes.now) }
-    ensures { Decided q escaping.entry.ascii_only escaping.entry.lone bytes.now at result }
-{
-    let b = bytes[at];
-    let escape = escape_at(escaping, bytes, at);
-    match escape {
-        Escape::No => Turn::Plain(sequence_length(b)),
-        Escape::LT => {
-            if is_script_close_tag(&bytes[at..]) {
-                Turn::Tag
-            } else {
-                Turn::Plain(1)
-            }
+// By place, since the cursor that asks has places, and what is decided needs the byte ahead too.
+impl<'t> Escaping<'t> {
+    /// Escaping by this table.
+    pub fn new(table: &'t EscapeTable) -> Escaping<'t>
+        ensures option { result.ascii_only ≡ table.entry.now.ascii_only }
+        ensures text { result.lone ≡ table.entry.now.lone }
+    {
+        Escaping {
+            table: table.classes(),
+            ascii_only: table.ascii_only,
+            lone: table.lone,
         }
-        Escape::LS | Escape::NB | Escape::SU | Escape::UC => {
-            let (c, n) = decode(bytes, at);
-            match wide_escape(escaping.ascii_only, c) {
-                Some(e) => Turn::Escaped(e, c, n),
-                None => Turn::Plain(n),
-            }
+    }
+
+    // The class of the byte at a place.
+    fn class_at(&self, bytes: &[u8], at: usize) -> Escape
+        requires { at < length bytes.now }
+        ensures { result ≡ class_in self.now.ascii_only self.now.lone (slice_index bytes.now at) }
+    {
+        self.table[bytes[at] as usize]
+    }
+
+    /// Whether the quote in use decides what is printed at a place.
+    pub fn quote_decides(&self, bytes: &[u8], at: usize) -> bool
+        requires { at < length bytes.now }
+        ensures { result ≡ decides_at self.now.ascii_only self.now.lone bytes.now at }
+    {
+        match self.class_at(bytes, at) {
+            Escape::NL | Escape::SQ | Escape::DQ | Escape::BQ => true,
+            Escape::DO => byte_at(bytes, at + 1) == OPENING_BRACE,
+            _ => false,
         }
-        _ => {
-            match short_escape(q, escape, byte_at(bytes, at + 1)) {
-                Some(e) => Turn::Escaped(e, b as u32, 1),
-                None => Turn::Plain(1),
+    }
+
+    /// What is done at a place where a character begins, in quotes q.
+    pub fn next_turn(&self, q: Quote, bytes: &[u8], at: usize) -> Turn
+        requires inside { at < length bytes.now }
+        requires fit { Fit self.now.lone (drop at bytes.now) }
+        ensures { Decided q self.now.ascii_only self.now.lone bytes.now at result }
+    {
+        let b = bytes[at];
+        let class = self.class_at(bytes, at);
+        match class {
+            Escape::No => Turn::Plain(sequence_length(b).unwrap()),
+            Escape::LT => {
+                if is_script_close_tag(&bytes[at..]) {
+                    Turn::Tag
+                } else {
+                    Turn::Plain(1)
+                }
+            }
+            Escape::LS | Escape::NB | Escape::SU | Escape::UC => {
+                let (c, n) = decode(bytes, at);
+                match wide_escape(self.ascii_only, c) {
+                    Some(e) => Turn::Escaped(e, c, n),
+                    None => Turn::Plain(n),
+                }
+            }
+            _ => {
+                match short_escape(q, class, byte_at(bytes, at + 1)) {
+                    Some(e) => Turn::Escaped(e, b as u32, 1),
+                    None => Turn::Plain(1),
+                }
             }
         }
     }

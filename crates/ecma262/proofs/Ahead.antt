@@ -1,6 +1,6 @@
 -- A lookahead of ECMA-262, and the test of it.
-use Rattle.std.proofs.Common.{◌≡◌, ℕ, Bool, true, false, ◌&&◌, List, [], ◌∷◌, refl}
-use Rattle.std.proofs.lemmas.Bool.{and_from, both_ways}
+use Rattle.std.proofs.lemmas.Grind.{common_steps}
+use Rattle.std.proofs.Common.{arith, ◌≡◌, ℕ, Bool, true, false, List, [], ◌∷◌, refl}
 use Rattle.ecma262.specs.Literals.{NotAhead}
 use Rattle.ecma262.specs.Lookahead.{opens}
 
@@ -10,4 +10,4 @@ not_ahead p P fails (c ∷ s) n = rw (fails c n)
 
 pub lookahead : (p : ℕ → Bool) (P : ℕ → Type 0) → ((c : ℕ) → P c → p c ≡ true) → (s : List ℕ) → opens (p ∷ []) s ≡ false → NotAhead P s
 lookahead p P passes [] e = tt
-lookahead p P passes (c ∷ s) e = λ h. both_ways (p c && true) e (and_from (p c) true (passes c h) refl)
+lookahead p P passes (c ∷ s) e = grind (arith, common_steps)

@@ -1,5 +1,5 @@
 -- The first breach of template text: where reading stops, and how a walk over the text finds it.
-use Rattle.std.proofs.Common.{◌≡◌, ℕ, zero, suc, ◌+◌, ◌-◌, ◌≤◌, Bool, true, false, cond, ◌&&◌, ◌||◌, eqb, ◌≢◌, List, [], ◌∷◌, ◌++◌, length, Some, None, sym, refl, ap, ◌∙◌, subst, ⊎_elim, append_assoc, arith, length-append}
+use Rattle.std.proofs.Common.{◌≡◌, ℕ, zero, suc, ◌+◌, ◌-◌, ◌≤◌, true, false, ◌||◌, eqb, ◌≢◌, List, [], ◌∷◌, ◌++◌, length, Some, None, sym, refl, ap, ◌∙◌, subst, ⊎_elim, append_assoc, arith, length-append}
 use lib.Utf8.{encode, encodes}
 use Rattle.std.specs.Char.{len_utf8}
 use Rattle.std.proofs.lemmas.Bool.{cases_Bool, cases_eq, ne_eqb}
@@ -90,9 +90,6 @@ stopped (suc n) s t h =
 
 -- a walk: at a breach, behind a character, at the end
 
-pub breach-end : (at : ℕ) → breach_from at [] ≡ None
-breach-end at = refl
-
 pub breach-here : (at c : ℕ) (s : List ℕ) → template_character (c ∷ s) ≡ nothing → breach_from at (c ∷ s) ≡ Some at
 breach-here at c s e = rw e (ap Some (omega arith))
 
@@ -155,7 +152,7 @@ other_behind at c s t q b d =
 
 none_left : (n : ℕ) (r : List ℕ) → place_of n r ≡ None → r ≡ []
 none_left n [] e = refl
-none_left n (c ∷ r) e = let z : ◌≡◌ {A = ℕ} 0 1 = cc in absurd (omega arith)
+none_left n (c ∷ r) e = cc
 
 pub unbroken : Unbroken
 unbroken text t = (
@@ -165,12 +162,12 @@ unbroken text t = (
 )
 
 some_left : (n place : ℕ) (r : List ℕ) → place_of n r ≡ Some place → (r ≢ []) × (place ≡ n - bytes r)
-some_left n place [] e = let z : ◌≡◌ {A = ℕ} 0 1 = cc in absurd (omega arith)
-some_left n place (c ∷ r) e = (λ i. let z : ◌≡◌ {A = ℕ} 0 1 = cc in absurd (omega arith), cc)
+some_left n place [] e = cc
+some_left n place (c ∷ r) e = (λ i. cc, cc)
 
 -- no character can be read, if the function reads none, and only then
 refuted : (s r u : List ℕ) → template_character s ≡ nothing → TemplateCharacter s r u → ⊥
-refuted s r u e c = let f : template_character s ≡ got r u = reads (Character.template c) in let z : ◌≡◌ {A = ℕ} 0 1 = cc in omega arith
+refuted s r u e c = let f : template_character s ≡ got r u = reads (Character.template c) in cc
 
 nothing_there : (s : List ℕ) → Text s → ((r u : List ℕ) → TemplateCharacter s r u → ⊥) → template_character s ≡ nothing
 nothing_there s t n = go (template_character s) (sound Backtick s t)
@@ -207,26 +204,10 @@ broken_at text place t = (
       ∙ ap Some (omega (arith, b.in_bytes, ap bytes b.parts, bytes-append b.good b.rest, length-encodes b.good)),
 )
 
-got-none : {P : Type 0} (r u : List ℕ) → got r u ≡ nothing → P
-got-none r u e = let z : ◌≡◌ {A = ℕ} 0 1 = cc in absurd (omega arith)
-
--- a test behind which something is read has failed
-none_if : (b : Bool) (r u : List ℕ) (g : Got) → cond b (got r u) g ≡ nothing → g ≡ nothing
-none_if true r u g e = got-none r u e
-none_if false r u g e = e
-
-none-unless : (b : Bool) (r u : List ℕ) → cond b nothing (got r u) ≡ nothing → b ≡ true
-none-unless true r u e = refl
-none-unless false r u e = got-none r u e
-
 breaks : (s : List ℕ) → s ≢ [] → template_character s ≡ nothing →
     opens (eqb 0x60 ∷ []) s || opens (eqb 0x24 ∷ eqb 0x7B ∷ []) s || opens (eqb 0x5C ∷ []) s ≡ true
 breaks [] h e = absurd (h refl)
-breaks (c ∷ s) h e =
-    ⊎_elim (λ i. rw i) (λ n.
-    let f = none_if (is_line_terminator c) _ _ _ (rw (ne_eqb c 0x5C n) at e) in
-    let g = none-unless (eqb c 0x60 || eqb c 0x24 && opens (eqb 0x7B ∷ []) s) s (utf16 c) f in
-    grind (arith, nat_tests)) (cases_eq c 0x5C)
+breaks (c ∷ s) h e = grind (arith, nat_tests)
 
 pub broken_by : BrokenBy
 broken_by text place t b = breaks b.rest b.some_rest (nothing_there b.rest (rest-text b.readable t) b.no_character)

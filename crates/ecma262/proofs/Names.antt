@@ -1,6 +1,6 @@
 -- A name has one end and one list of code points.
-use Rattle.std.proofs.Common.{◌≡◌, ℕ, ◌+◌, ◌-◌, ◌/◌, ◌%◌, List, [], ◌∷◌, sym, refl, subst, inl, inr, ⊎_elim, arith}
-use Rattle.std.proofs.lemmas.Bool.{cases_lt, lt-ltb, le-ltb}
+use Rattle.std.proofs.Common.{◌≡◌, ℕ, List, sym, refl, subst, inl, inr, arith}
+use Rattle.std.proofs.lemmas.Bool.Decides.{nat_tests}
 use Rattle.ecma262.specs.Units.{utf16}
 use Rattle.ecma262.specs.Laws.{UniqueName}
 use Rattle.ecma262.specs.Literals.{NotAhead}
@@ -11,25 +11,7 @@ use Rattle.ecma262.proofs.Values.{escapes}
 -- a code point is known by its units
 
 from_units : (c d : ℕ) → utf16 c ≡ utf16 d → c ≡ d
-from_units c d e =
-    ⊎_elim
-    (λ l. ⊎_elim
-    (λ k. let f : ◌≡◌ {A = List ℕ} (c ∷ []) (d ∷ []) = rw (lt-ltb c 0x10000 l, lt-ltb d 0x10000 k) at e in cc)
-    (λ k. let f : ◌≡◌ {A = List ℕ} (c ∷ []) ((0xD800 + (d - 0x10000) / 0x400) ∷ (0xDC00 + (d - 0x10000) % 0x400) ∷ []) = rw (lt-ltb c 0x10000 l, le-ltb d 0x10000 k) at e in
-    let z : ◌≡◌ {A = ℕ} 0 1 = cc in absurd (omega arith))
-    (cases_lt d 0x10000))
-    (λ l. ⊎_elim
-    (λ k. let f : ◌≡◌ {A = List ℕ} ((0xD800 + (c - 0x10000) / 0x400) ∷ (0xDC00 + (c - 0x10000) % 0x400) ∷ []) (d ∷ []) = rw (le-ltb c 0x10000 l, lt-ltb d 0x10000 k) at e in
-    let z : ◌≡◌ {A = ℕ} 0 1 = cc in absurd (omega arith))
-    (λ k. let f : ◌≡◌ {A = List ℕ} ((0xD800 + (c - 0x10000) / 0x400) ∷ (0xDC00 + (c - 0x10000) % 0x400) ∷ []) ((0xD800 + (d - 0x10000) / 0x400) ∷ (0xDC00 + (d - 0x10000) % 0x400) ∷ []) =
-    rw (le-ltb c 0x10000 l, le-ltb d 0x10000 k) at e in
-    let p = pairs _ _ _ _ f in
-    omega arith)
-    (cases_lt d 0x10000))
-    (cases_lt c 0x10000)
-  where
-    pairs : (a b x y : ℕ) → ◌≡◌ {A = List ℕ} (a ∷ b ∷ []) (x ∷ y ∷ []) → (a ≡ x) × (b ≡ y)
-    pairs a b x y e = (cc, cc)
+from_units c d e = grind (arith, nat_tests)
 
 -- no backslash is allowed as it stands
 

@@ -1,11 +1,10 @@
 -- What the function of specs/Read reads is a character by ECMA-262.
-use Rattle.std.proofs.Common.{◌≡◌, ℕ, ◌+◌, ◌*◌, ◌≤◌, Bool, true, false, cond, ◌&&◌, ◌||◌, eqb, leb, List, [], ◌∷◌, Some, None, Option, refl, subst, ⊎_elim, arith}
+use Rattle.std.proofs.Common.{◌≡◌, ℕ, ◌+◌, ◌*◌, ◌≤◌, Bool, true, false, cond, ◌&&◌, ◌||◌, eqb, leb, List, [], ◌∷◌, refl, subst, ⊎_elim, arith}
 use Rattle.std.proofs.lemmas.Bool.{cond_both, leb-true, eqb-true, eqb-false, cases_eq, both_ways, ne_eqb}
 use Rattle.std.proofs.lemmas.Bool.Decides.{nat_tests}
 use Rattle.ecma262.specs.Units.{Text, utf16}
 use Rattle.ecma262.specs.Lookahead.{digit, opens}
 use Rattle.ecma262.specs.Literals.{DecimalDigit, HexDigit, HexDigits, SingleEscapeCharacter, EscapeSequence, LineTerminatorSequence, StringCharacter, TemplateCharacter, Character}
-use Rattle.ecma262.specs.Literals.HexDigit.{decimal, small, capital}
 use Rattle.ecma262.specs.Literals.SingleEscapeCharacter.{single_quote, double_quote, backslash, backspace, form_feed, line_feed, carriage_return, tab, vertical_tab}
 use Rattle.ecma262.specs.Read.Got.{nothing, got}
 use Rattle.ecma262.specs.Read.{Got, hex_value, bind, is_line_terminator, read_code_point, hex_escape, hex4_digits, unicode_escape, character_escape, escape_sequence, after_line_terminator, behind_backslash as behind, string_character, template_character, character}
@@ -20,23 +19,8 @@ abbrev pub Sound : (List ℕ → List ℕ → Type 0) → Got → Type 0
 Sound K nothing = Unit {0}
 Sound K (got rest u) = K rest u
 
-abbrev Digit : ℕ → Option ℕ → Type 0
-Digit d None = Unit {0}
-Digit d (Some v) = HexDigit d v
-
-digit_sound : (d : ℕ) → Digit d (hex_value d)
-digit_sound d =
-    cond_both (leb 0x30 d && leb d 0x39) _ _ (Digit d) (λ t. decimal (grind (arith, nat_tests)) (grind (arith, nat_tests)))
-    (λ _. cond_both (leb 0x61 d && leb d 0x66) _ _ (Digit d) (λ t. small (grind (arith, nat_tests)) (grind (arith, nat_tests)) (grind (arith, nat_tests)))
-    (λ _. cond_both (leb 0x41 d && leb d 0x46) _ _ (Digit d) (λ t. capital (grind (arith, nat_tests)) (grind (arith, nat_tests)) (grind (arith, nat_tests))) (λ _. tt)))
-
-module _ (K : List ℕ → List ℕ → Type 0) where
-  with_option : (d : ℕ) (o : Option ℕ) (f : ℕ → Got) → Digit d o → ((v : ℕ) → HexDigit d v → Sound K (f v)) → Sound K (bind o f)
-  with_option d None f h k = tt
-  with_option d (Some v) f h k = k v h
-
-  with_digit : (d : ℕ) (f : ℕ → Got) → ((v : ℕ) → HexDigit d v → Sound K (f v)) → Sound K (bind (hex_value d) f)
-  with_digit d f k = with_option d (hex_value d) f (digit_sound d) k
+with_digit : (K : List ℕ → List ℕ → Type 0) (d : ℕ) (f : ℕ → Got) → ((v : ℕ) → HexDigit d v → Sound K (f v)) → Sound K (bind (hex_value d) f)
+with_digit K d f k = grind (arith, nat_tests)
 
 -- the digits of a code point, as far as the brace
 abbrev Point : ℕ → List ℕ → List ℕ → List ℕ → Type 0

@@ -1,7 +1,8 @@
 -- The bytes of a code point in UTF-8, and what a test of ASCII characters sees of a text in its bytes.
-use Rattle.std.proofs.Common.{◌≡◌, ℕ, ◌+◌, ◌/◌, ◌%◌, ◌<◌, ◌≤◌, Bool, true, false, ◌&&◌, eqb, List, [], ◌∷◌, ◌++◌, get_or, sym, refl, ap, ⊎_elim, arith}
+use Rattle.std.proofs.Common.{◌≡◌, ℕ, ◌+◌, ◌/◌, ◌%◌, ◌<◌, ◌≤◌, Bool, false, ◌&&◌, eqb, List, [], ◌∷◌, ◌++◌, get_or, sym, refl, ap, ⊎_elim, arith}
 use lib.Utf8.{encode, encodes}
 use Rattle.std.specs.List.{AllByRecursion}
+use Rattle.std.proofs.Math.Bool.{and-true}
 use Rattle.std.proofs.lemmas.Bool.{cases_lt, lt-ltb, le-ltb}
 use Rattle.std.proofs.lemmas.Bool.Decides.{nat_tests}
 use Rattle.ecma262.specs.Lookahead.{opens, digit}
@@ -18,11 +19,11 @@ module _ (c : ℕ) where
 
   pub encode_3 : 0x800 ≤ c → c < 0x10000 → encode c ≡ (224 + c / 4096) ∷ (128 + c / 64 % 64) ∷ (128 + c % 64) ∷ []
   unfolding encode
-  encode_3 h k = rw (le-ltb c 128 (omega arith), le-ltb c 2048 h, lt-ltb c 65536 k)
+  encode_3 h k = grind (arith, nat_tests)
 
   pub encode_4 : 0x10000 ≤ c → encode c ≡ (240 + c / 262144) ∷ (128 + c / 4096 % 64) ∷ (128 + c / 64 % 64) ∷ (128 + c % 64) ∷ []
   unfolding encode
-  encode_4 h = rw (le-ltb c 128 (omega arith), le-ltb c 2048 (omega arith), le-ltb c 65536 h)
+  encode_4 h = grind (arith, nat_tests)
 
 -- a character and its bytes: itself, or bytes above 7F
 pub data Encoded (c : ℕ) : List ℕ → Type 0 where
@@ -60,8 +61,4 @@ eqb_narrow w l x h = grind (arith, nat_tests)
 -- one test at the front is the test of the first byte, if it does not pass 0
 pub first_test : (p : ℕ → Bool) → p 0 ≡ false → (s : List ℕ) → opens (p ∷ []) s ≡ p (get_or s 0 0)
 first_test p z [] = sym z
-first_test p z (c ∷ s) = and_true (p c)
-  where
-    and_true : (b : Bool) → (b && true) ≡ b
-    and_true true = refl
-    and_true false = refl
+first_test p z (c ∷ s) = and-true (p c)

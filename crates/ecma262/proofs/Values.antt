@@ -1,5 +1,5 @@
 -- What is a character by ECMA-262 is read by the function of specs/Read; so a literal has one value.
-use Rattle.std.proofs.Common.{◌≡◌, ℕ, ◌<◌, ◌≤◌, false, ◌||◌, eqb, ◌≢◌, List, [], ◌∷◌, Some, sym, refl, subst, inl, inr, arith}
+use Rattle.std.proofs.Common.{◌≡◌, ℕ, ◌<◌, ◌≤◌, false, eqb, ◌≢◌, List, [], ◌∷◌, Some, sym, refl, subst, arith}
 use Rattle.std.proofs.lemmas.Bool.{ne_eqb, le-leb}
 use Rattle.std.proofs.lemmas.Bool.Decides.{nat_tests}
 use Rattle.ecma262.specs.declared.Quote.{Quote}
@@ -48,12 +48,7 @@ other : {c : ℕ} → NonEscapeCharacter c → {e v : ℕ} → SingleEscapeChara
 other {c} n {e} {v} s = ne_eqb c e (λ i. n.not_single v (rw i s))
 
 pub not_line : (c : ℕ) → (LineTerminator c → ⊥) → is_line_terminator c ≡ false
-not_line c l =
-    let a : c ≢ 0x0A = λ e. l (inl e) in
-    let b : c ≢ 0x0D = λ e. l (inr (inl e)) in
-    let d : c ≢ 0x2028 = λ e. l (inr (inr (inl e))) in
-    let f : c ≢ 0x2029 = λ e. l (inr (inr (inr e))) in
-    grind (arith, nat_tests)
+not_line c l = grind (arith, nat_tests)
 
 pub escapes : {s rest u : List ℕ} → EscapeSequence s rest u → behind s ≡ got rest u
 escapes (EscapeSequence.single s) = single _ s
@@ -88,10 +83,7 @@ continued LineTerminatorSequence.ps = refl
 continued LineTerminatorSequence.crlf = refl
 
 in_string : (m : ℕ) {s rest u : List ℕ} → m < 128 → StringCharacter m s rest u → string_character m s ≡ got rest u
-in_string m k (StringCharacter.source {c = c} h a b l) =
-    let n = not_line c l in
-    let e : (eqb c 0x5C ≡ false) × ((eqb c m || eqb c 0x0A || eqb c 0x0D) ≡ false) = grind (arith, nat_tests) in
-    rw (e.0, e.1)
+in_string m k (StringCharacter.source {c = c} h a b l) = grind (arith, nat_tests)
 in_string m k StringCharacter.ls = rw (ne_eqb 0x2028 m (omega arith))
 in_string m k StringCharacter.ps = rw (ne_eqb 0x2029 m (omega arith))
 in_string m k (StringCharacter.escape e) = escapes e
@@ -109,7 +101,7 @@ in_template (TemplateCharacter.dollar {rest = rest} n) = rw (not_ahead (eqb 0x7B
 in_template (TemplateCharacter.escape e) = escapes e
 in_template (TemplateCharacter.continuation l) = continued l
 in_template (TemplateCharacter.line_end l) = line_end l
-in_template (TemplateCharacter.source {c = c} h a b d l) = rw (ne_eqb c 0x5C b, not_line c l, ne_eqb c 0x60 a, ne_eqb c 0x24 d)
+in_template (TemplateCharacter.source {c = c} h a b d l) = grind (arith, nat_tests)
 
 pub reads : {q : Quote} {s rest u : List ℕ} → Character q s rest u → character q s ≡ got rest u
 reads (Character.single c) = in_string 0x27 (omega arith) c

@@ -1,6 +1,7 @@
 -- The function reads a whole literal exactly if it is one by ECMA-262.
-use Rattle.std.proofs.Common.{◌≡◌, ℕ, zero, suc, ◌≤◌, true, false, ◌&&◌, eqb, List, [], ◌∷◌, length, drop, sym, refl, ap, subst, ⊎_elim, arith}
-use Rattle.std.proofs.lemmas.Bool.{eq-eqb, eqb-true, ne_eqb, cases_eq, cond_both, and_parts}
+use Rattle.std.proofs.lemmas.Bool.Decides.{nat_tests}
+use Rattle.std.proofs.Common.{◌≡◌, ℕ, zero, suc, ◌≤◌, true, false, ◌&&◌, eqb, List, [], ◌∷◌, length, drop, refl, ap, subst, arith}
+use Rattle.std.proofs.lemmas.Bool.{eq-eqb, eqb-true, cond_both, and_parts}
 use Rattle.ecma262.specs.Units.{Text, mark}
 use Rattle.ecma262.specs.Lookahead.{opens}
 use Rattle.ecma262.specs.Laws.{WholeReadable}
@@ -10,16 +11,12 @@ use Rattle.ecma262.specs.Read.{Got, character, prefixed, and_then, up_to_quote, 
 use Rattle.ecma262.specs.Read.Got.{nothing, got}
 use Rattle.ecma262.proofs.Ends.{character-end, shorter, all_end}
 use Rattle.ecma262.proofs.Sound.{Sound, sound, lift}
-use Rattle.ecma262.proofs.Values.{reads, closes, body}
+use Rattle.ecma262.proofs.Values.{reads, body}
 
 -- no character begins with the closing quote
 not_closed : (q : Quote) (s r u : List ℕ) → character q s ≡ got r u → opens (eqb (mark q) ∷ []) s ≡ false
 not_closed q [] r u e = refl
-not_closed q (c ∷ s) r u e =
-    ⊎_elim
-    (λ i. let f = closes q s in let k : character q (mark q ∷ s) ≡ got r u = rw i e in cc)
-    (λ n. rw (ne_eqb (mark q) c n))
-    (cases_eq (mark q) c)
+not_closed q (c ∷ s) r u e = grind (arith, nat_tests)
 
 up_to : (q : Quote) {s x u : List ℕ} (rest : List ℕ) (fuel : ℕ) → x ≡ mark q ∷ rest → length s ≤ fuel → Characters q s x u → up_to_quote fuel q s ≡ got rest u
 up_to q rest zero e h Characters.none = absurd (omega (arith, ap length e))
@@ -36,8 +33,8 @@ reads_whole {q} {rest = rest} l =
 
 -- a text that begins with the quote
 opened : (m : ℕ) (s : List ℕ) → opens (eqb m ∷ []) s ≡ true → s ≡ m ∷ drop 1 s
-opened m [] e = let z : ◌≡◌ {A = ℕ} 0 1 = cc in absurd (omega arith)
-opened m (c ∷ s) e = ap (λ x. x ∷ s) (sym (eqb-true m c (and_parts (eqb m c) true e).0))
+opened m [] e = cc
+opened m (c ∷ s) e = grind (arith, nat_tests)
 
 -- the characters of s up to the closing quote
 abbrev Body : Quote → List ℕ → List ℕ → List ℕ → Type 0

@@ -14,15 +14,30 @@
 //! - specs/Samples: worked examples.
 #![tactic(auto)]
 
+ghost use Rattle.std.specs.Prelude.{◌≡◌};
 ghost use Rattle.ecma262.specs.Laws.{Unique, Readable, WholeReadable, Followed, Closed, Unbroken, BrokenAt, BrokenBy, UniqueName};
 ghost use Rattle.ecma262.specs.Samples.{Samples};
+ghost use Rattle.ecma262.specs.Units.{mark};
 
 /// The three delimiters of literals: `'`, `"` and, for a template without substitutions, `` ` ``.
-#[derive(Clone, Copy)]
+#[derive(Clone, Copy, Debug, PartialEq, Eq)]
 pub enum Quote {
     Single,
     Double,
     Backtick,
+}
+
+impl Quote {
+    /// The byte that stands at both ends of the literal.
+    pub fn mark(self) -> u8
+        ensures is_its_code_point { result ≡ mark self }
+    {
+        match self {
+            Quote::Single => b'\'',
+            Quote::Double => b'"',
+            Quote::Backtick => b'`',
+        }
+    }
 }
 
 /// By the standard a literal has one value and one end.

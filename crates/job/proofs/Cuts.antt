@@ -1,79 +1,83 @@
--- The first line of a text and the first word of a line, cut off.
-use Rattle.std.proofs.Common.{◌≡◌, ℕ, suc, ◌<◌, Bool, true, false, not, eqb, List, [], ◌∷◌, length, take, drop, sym, refl, ap, ◌∙◌, subst, one-add, arith}
-use Rattle.job.specs.declared.bytes.Stop.{Stop}
-use Rattle.job.specs.declared.bytes.Stop.TheVariants.{Blank, Ink, Byte}
-use Rattle.job.specs.Lines.{blank, stops, before, trim, word, behind, onto, lines, words}
-
--- what begins with no blank
-abbrev pub Inked : List ℕ → Type 0
-Inked [] = Unit {0}
-Inked (b ∷ rest) = blank b ≡ false
+-- The first word of a line, cut off.
+use Rattle.std.proofs.Common.{◌≡◌, ℕ, Bool, true, false, not, cond, eqb, suc, List, [], ◌∷◌, length, filter, sym, refl, ap, ◌∙◌, one-add, add-one, arith, true-eqb}
+use Rattle.std.specs.List.{slice_split}
+use Rattle.job.specs.Lines.{blank, from_first, word, behind, words}
 
 -- cases of a test, with what it came to
 by_test : (P : Type 0) (t : Bool) → (t ≡ true → P) → (t ≡ false → P) → P
 by_test P true yes-case no-case = yes-case refl
 by_test P false yes-case no-case = no-case refl
 
-before-stops : (stop : Stop) (b : ℕ) (rest : List ℕ) → stops stop b ≡ true → before stop (b ∷ rest) ≡ 0
-before-stops stop b rest e = rw e
+abbrev filled : List ℕ → Bool
+filled w = not (eqb (length w) 0)
 
-before-goes : (stop : Stop) (b : ℕ) (rest : List ℕ) → stops stop b ≡ false → before stop (b ∷ rest) ≡ suc (before stop rest)
-before-goes stop b rest e = rw (e, one-add)
+-- the pieces behind the first
+abbrev pieces_behind : List ℕ → List (List ℕ)
+pieces_behind [] = []
+pieces_behind (b ∷ t) = cond (blank b) (slice_split blank t) (pieces_behind t)
 
--- a run that begins with `b`, cut off, and what a reading of the rest gives
-begun : (stop : Stop) (b : ℕ) (t : List ℕ) (read : List ℕ → List (List ℕ)) → stops stop b ≡ false → (b ∷ take (before stop t) t) ∷ read (drop 1 (drop (before stop t) t)) ≡ take (before stop (b ∷ t)) (b ∷ t) ∷ read (drop 1 (drop (before stop (b ∷ t)) (b ∷ t)))
-begun stop b t read e = ap (λ (k : ℕ). take k (b ∷ t) ∷ read (drop 1 (drop k (b ∷ t)))) (sym (before-goes stop b t e))
-
-trim-blank : (b : ℕ) (rest : List ℕ) → blank b ≡ true → trim (b ∷ rest) ≡ trim rest
-trim-blank b rest e = ap (λ (k : ℕ). drop k (b ∷ rest)) (before-goes Ink b rest (ap not e))
-
-trim_ink : (b : ℕ) (rest : List ℕ) → blank b ≡ false → trim (b ∷ rest) ≡ b ∷ rest
-trim_ink b rest e = ap (λ (k : ℕ). drop k (b ∷ rest)) (before-stops Ink b rest (ap not e))
-
-pub trim_inked : (t : List ℕ) → Inked (trim t)
-trim_inked [] = tt
-trim_inked (b ∷ rest) =
-    by_test (Inked (trim (b ∷ rest))) (blank b)
-    (λ e. subst Inked (sym (trim-blank b rest e)) (trim_inked rest))
-    (λ e. subst Inked (sym (trim_ink b rest e)) e)
-
-words-blank : (b : ℕ) (rest : List ℕ) → blank b ≡ true → words rest ≡ words (b ∷ rest)
-words-blank b rest e = rw e
-
-pub words-trim : (t : List ℕ) → words (trim t) ≡ words t
-words-trim [] = refl
-words-trim (b ∷ rest) =
-    by_test (words (trim (b ∷ rest)) ≡ words (b ∷ rest)) (blank b)
-    (λ e. ap words (trim-blank b rest e) ∙ words-trim rest ∙ words-blank b rest e)
-    (λ e. ap words (trim_ink b rest e))
-
-words-joined : (b x : ℕ) (rest : List ℕ) → blank b ≡ false → blank x ≡ false → words (b ∷ x ∷ rest) ≡ onto b (words (x ∷ rest))
-words-joined b x rest e f = rw (e, f)
-
-words_parted : (b x : ℕ) (rest : List ℕ) → blank b ≡ false → blank x ≡ true → words (b ∷ x ∷ rest) ≡ word (b ∷ x ∷ rest) ∷ words (behind (b ∷ x ∷ rest))
-words_parted b x rest e f = rw (e, f)
-
-pub words_cut : (t : List ℕ) → Inked t → 0 < length t → words t ≡ word t ∷ words (behind t)
-words_cut [] inked h = absurd (omega arith)
-words_cut (b ∷ []) inked h = rw inked
-words_cut (b ∷ x ∷ rest) inked h =
-    by_test (words (b ∷ x ∷ rest) ≡ word (b ∷ x ∷ rest) ∷ words (behind (b ∷ x ∷ rest))) (blank x)
-    (λ e. words_parted b x rest inked e)
-    (λ e. words-joined b x rest inked e ∙ ap (onto b) (words_cut (x ∷ rest) e (omega arith)) ∙ begun Blank b (x ∷ rest) words inked)
-
-lines-joined : (b : ℕ) (rest : List ℕ) → eqb b 10 ≡ false → lines (b ∷ rest) ≡ onto b (lines rest)
-lines-joined b rest e = rw e
-
-lines_parted : (b : ℕ) (rest : List ℕ) → eqb b 10 ≡ true → lines (b ∷ rest) ≡ take (before (Byte 10) (b ∷ rest)) (b ∷ rest) ∷ lines (drop 1 (drop (before (Byte 10) (b ∷ rest)) (b ∷ rest)))
-lines_parted b rest e = rw e
-
-pub lines_cut : (t : List ℕ) → 0 < length t → lines t ≡ take (before (Byte 10) t) t ∷ lines (drop 1 (drop (before (Byte 10) t) t))
-lines_cut [] h = absurd (omega arith)
-lines_cut (b ∷ []) h =
-    by_test (lines (b ∷ []) ≡ take (before (Byte 10) (b ∷ [])) (b ∷ []) ∷ lines (drop 1 (drop (before (Byte 10) (b ∷ [])) (b ∷ [])))) (eqb b 10)
+first_piece : (t : List ℕ) → slice_split blank t ≡ word t ∷ pieces_behind t
+first_piece [] = refl
+first_piece (b ∷ t) =
+    by_test (slice_split blank (b ∷ t) ≡ word (b ∷ t) ∷ pieces_behind (b ∷ t)) (blank b)
     (λ e. rw e)
+    (λ e. rw (e, first_piece t, one-add))
+
+behind-ink : (b : ℕ) (t : List ℕ) → blank b ≡ false → behind (b ∷ t) ≡ behind t
+behind-ink b t e = simp (e, one-add, add-one)
+
+pieces_behind-ink : (b : ℕ) (t : List ℕ) → blank b ≡ false → pieces_behind (b ∷ t) ≡ pieces_behind t
+pieces_behind-ink b t e = rw e
+
+words_behind : (t : List ℕ) → filter filled (pieces_behind t) ≡ words (behind t)
+words_behind [] = refl
+words_behind (b ∷ t) =
+    by_test (filter filled (pieces_behind (b ∷ t)) ≡ words (behind (b ∷ t))) (blank b)
     (λ e. rw e)
-lines_cut (b ∷ x ∷ rest) h =
-    by_test (lines (b ∷ x ∷ rest) ≡ take (before (Byte 10) (b ∷ x ∷ rest)) (b ∷ x ∷ rest) ∷ lines (drop 1 (drop (before (Byte 10) (b ∷ x ∷ rest)) (b ∷ x ∷ rest)))) (eqb b 10)
-    (λ e. lines_parted b (x ∷ rest) e)
-    (λ e. lines-joined b (x ∷ rest) e ∙ ap (onto b) (lines_cut (x ∷ rest) (omega arith)) ∙ begun (Byte 10) b (x ∷ rest) lines e)
+    (λ e. ap (filter filled) (pieces_behind-ink b t e) ∙ words_behind t ∙ ap words (sym (behind-ink b t e)))
+
+-- the words, by the first run between blanks
+by_run : (t : List ℕ) → words t ≡ cond (filled (word t)) (word t ∷ words (behind t)) (words (behind t))
+by_run t = ap (filter filled) (first_piece t) ∙ ap (λ ws. cond (filled (word t)) (word t ∷ ws) ws) (words_behind t)
+
+-- the text from its first byte that is no blank
+abbrev pub inked : List ℕ → List ℕ
+inked line = from_first (λ b. not (blank b)) line
+
+inked-blank : (b : ℕ) (line : List ℕ) → blank b ≡ true → inked (b ∷ line) ≡ inked line
+inked-blank b line e = rw (e, one-add)
+
+inked-ink : (b : ℕ) (line : List ℕ) → blank b ≡ false → inked (b ∷ line) ≡ b ∷ line
+inked-ink b line e = rw e
+
+words-blank : (b : ℕ) (line : List ℕ) → blank b ≡ true → words (b ∷ line) ≡ words line
+words-blank b line e = rw e
+
+words-inked : (line : List ℕ) → words line ≡ words (inked line)
+words-inked [] = refl
+words-inked (b ∷ line) =
+    by_test (words (b ∷ line) ≡ words (inked (b ∷ line))) (blank b)
+    (λ e. words-blank b line e ∙ words-inked line ∙ ap words (sym (inked-blank b line e)))
+    (λ e. ap words (sym (inked-ink b line e)))
+
+word-ink : (b : ℕ) (line : List ℕ) → blank b ≡ false → length (word (b ∷ line)) ≡ suc (length (word line))
+word-ink b line e = rw (e, one-add)
+
+nothing_inked : (line : List ℕ) → length (word (inked line)) ≡ 0 → inked line ≡ []
+nothing_inked [] h = refl
+nothing_inked (b ∷ line) h =
+    by_test (inked (b ∷ line) ≡ []) (blank b)
+    (λ e. inked-blank b line e ∙ nothing_inked line (ap (λ t. length (word t)) (sym (inked-blank b line e)) ∙ h))
+    (λ e. absurd (omega (arith, word-ink b line e, ap (λ t. length (word t)) (inked-ink b line e))))
+
+-- `w` is the first word, and `left` what follows behind the blank that ends it
+module _ (line t w left : List ℕ) (begun : t ≡ inked line) (front : w ≡ word t) (back : left ≡ behind t) where
+  pub no_word : true ≡ eqb (length w) 0 → (words line ≡ []) × (words left ≡ [])
+  no_word h =
+      let e : length (word (inked line)) ≡ 0 = sym (ap (λ t. length (word t)) begun) ∙ sym (ap length front) ∙ true-eqb (length w) 0 h in
+      let none = nothing_inked line e in
+      (words-inked line ∙ ap words none, ap words (back ∙ ap behind (begun ∙ none)))
+
+  pub next_word : false ≡ eqb (length w) 0 → words line ≡ w ∷ words left
+  next_word h =
+      words-inked line ∙ ap words (sym begun) ∙ by_run t ∙ rw (← front, ← back, ← h)

@@ -1,28 +1,45 @@
--- What one more byte tells of whether a text holds a surrogate.
-use Rattle.std.proofs.Common.{◌≡◌, ℕ, ◌+◌, ◌-◌, ◌<◌, ◌≤◌, Bool, true, false, ◌&&◌, ◌||◌, eqb, leb, List, [], ◌∷◌, length, get_or, drop, sym, refl, ap, ◌∙◌, add-one, arith, drop-cons}
+-- The neighbours in a text, and whether a text holds a surrogate.
+use Rattle.std.proofs.Common.{◌≡◌, ℕ, ◌<◌, ◌≤◌, Bool, ◌&&◌, ◌||◌, ◌==◌, nat_le, List, [], ◌∷◌, length, get_or, take, drop, Bor, sym, refl, ap, ◌∙◌, arith}
+use Rattle.std.specs.List.{list_any}
+use Rattle.std.specs.Slice.Iter.{windows_rest, windows_size, windows_steps}
+use Rattle.std.specs.declared.slice.Windows.{Windows}
+use Rattle.std.proofs.lemmas.Iterator.{YieldsList}
+use Rattle.std.proofs.lemmas.Iterator.Splits.{YieldsList-from_shown_while}
 use Rattle.text.specs.Sequence.{marked}
 
-abbrev pub begins : ℕ → ℕ → Bool
-begins lead next = eqb lead 0xED && leb 0xA0 next && leb next 0xBF
+abbrev pub begins : ℕ × ℕ → Bool
+begins p = p.0 == 0xED && nat_le 0xA0 p.1 && nat_le p.1 0xBF
+
+abbrev pub neighbours : List ℕ → List (ℕ × ℕ)
+neighbours [] = []
+neighbours (a ∷ []) = []
+neighbours (a ∷ b ∷ s) = (a, b) ∷ neighbours (b ∷ s)
+
+marked-behind : (a : ℕ) (s : List ℕ) → marked a s ≡ list_any begins (neighbours (a ∷ s))
+marked-behind a [] = refl
+marked-behind a (b ∷ s) = ap (λ t. begins (a, b) || t) (marked-behind b s)
 
 -- no byte stands before the first
-pub at_first : (s : List ℕ) → marked 0 s ≡ marked (get_or s 0 0) (drop 1 s)
-at_first [] = refl
-at_first (a ∷ s) = refl
+pub marked-neighbours : (s : List ℕ) → marked 0 s ≡ list_any begins (neighbours s)
+marked-neighbours [] = refl
+marked-neighbours (b ∷ s) = marked-behind b s
 
--- from `i` on, by the byte that stands there and the one before it
-at_pair : (s : List ℕ) (i before : ℕ) → i < length s → marked before (drop i s) ≡ (begins before (get_or s i 0) || marked (get_or s i 0) (drop (i + 1) s))
-at_pair s i before h = rw (drop-cons s i 0, add-one i)
+abbrev pub pair_of : Bor (List ℕ) → ℕ × ℕ
+pair_of w = (get_or w.now 0 0, get_or w.now 1 0)
 
-pub found : (s : List ℕ) (i : ℕ) → i < length s → true ≡ begins (get_or s (i - 1) 0) (get_or s i 0) → true ≡ marked (get_or s (i - 1) 0) (drop i s)
-found s i h e = sym (at_pair s i (get_or s (i - 1) 0) h ∙ ap (λ (b : Bool). b || marked (get_or s i 0) (drop (i + 1) s)) (sym e))
+ended : (s : List ℕ) → length s < 2 → length (neighbours s) ≡ 0
+ended [] h = refl
+ended (a ∷ []) h = refl
+ended (a ∷ b ∷ s) h = absurd (omega arith)
 
-pub passed : (s : List ℕ) (i : ℕ) → i < length s → false ≡ begins (get_or s (i - 1) 0) (get_or s i 0) → marked (get_or s (i - 1) 0) (drop i s) ≡ marked (get_or s (i + 1 - 1) 0) (drop (i + 1) s)
-passed s i h e =
-    let k : i ≡ i + 1 - 1 = omega arith in
-    at_pair s i (get_or s (i - 1) 0) h ∙ ap (λ (b : Bool). b || marked (get_or s i 0) (drop (i + 1) s)) (sym e) ∙ ap (λ (j : ℕ). marked (get_or s j 0) (drop (i + 1) s)) k
+next : (s w : List ℕ) → 2 ≤ length s → w ≡ take 2 s → neighbours s ≡ (get_or w 0 0, get_or w 1 0) ∷ neighbours (drop 1 s)
+next [] w h e = absurd (omega arith)
+next (a ∷ []) w h e = absurd (omega arith)
+next (a ∷ b ∷ s) w h e = ap (λ v. (get_or v 0 0, get_or v 1 0) ∷ neighbours (b ∷ s)) (sym e)
 
--- where no byte is left, there is none
-pub none_left : (before : ℕ) (s : List ℕ) → length s ≤ 0 → marked before s ≡ false
-none_left before [] h = refl
-none_left before (b ∷ s) h = absurd (omega arith)
+-- the windows of two are the neighbours
+pub YieldsList-from_windows : {s : Windows ℕ} (xs : List ℕ) → windows_rest s ≡ xs → windows_size s ≡ 2 → YieldsList windows_steps pair_of s (neighbours xs)
+YieldsList-from_windows {s} xs rest size =
+    rw (← rest) (YieldsList-from_shown_while windows_steps pair_of (λ t. neighbours (windows_rest t)) (λ t. windows_size t ≡ 2)
+    (λ t u two h. ended (windows_rest t) (omega (arith, h.1.0)))
+    (λ t x u two h. (h.0 ∙ two, next (windows_rest t) x.now (omega (arith, h.1.0)) (h.1.1 ∙ ap (λ n. take n (windows_rest t)) two) ∙ ap (λ r. pair_of x ∷ neighbours r) (sym h.1.2))) s size)

@@ -1,14 +1,8 @@
--- What one more byte tells of a run, of the number that it has before it ends.
-use Rattle.std.proofs.Common.{◌≡◌, ℕ, ◌+◌, ◌<◌, true, false, cond, List, length, get_or, drop, ◌∙◌, add-one, drop-cons}
-use Rattle.job.specs.declared.bytes.Stop.{Stop}
-use Rattle.job.specs.Lines.{stops, before}
+-- The place of the first element that passes a test.
+use Rattle.std.proofs.Common.{◌≡◌, ℕ, ◌<◌, true, false, Bool, List, length, Option, one-add, add-one, sym, refl}
+use Rattle.std.specs.Option.{unwrap_or, MatchOption}
+use Rattle.std.specs.List.{position_or_len, AllWithin, HoldsAt}
+use Rattle.std.proofs.lemmas.Iterator.{index_from_first}
 
--- the run from `i` on, by its first byte
-pub run_from : (stop : Stop) (text : List ℕ) (i : ℕ) → i < length text → before stop (drop i text) ≡ cond (stops stop (get_or text i 0)) 0 (1 + before stop (drop (i + 1) text))
-run_from stop text i h = rw (drop-cons text i 0, add-one)
-
-pub run_ends : (stop : Stop) (text : List ℕ) (i : ℕ) → i < length text → stops stop (get_or text i 0) ≡ true → before stop (drop i text) ≡ 0
-run_ends stop text i h e = run_from stop text i h ∙ rw e
-
-pub run_goes_on : (stop : Stop) (text : List ℕ) (i : ℕ) → i < length text → stops stop (get_or text i 0) ≡ false → before stop (drop i text) ≡ 1 + before stop (drop (i + 1) text)
-run_goes_on stop text i h e = run_from stop text i h ∙ rw e
+pub place_of_first : (p : ℕ → Bool) (xs : List ℕ) (r : Option ℕ) → MatchOption r (AllWithin (λ x. false ≡ p x) xs 0 (length xs)) (λ i. (i < length xs) × HoldsAt (λ x. true ≡ p x) xs i × AllWithin (λ x. false ≡ p x) xs 0 i) → position_or_len p xs ≡ unwrap_or r (length xs)
+place_of_first p = index_from_first (position_or_len p) (λ x. true ≡ p x) (λ x. false ≡ p x) refl (λ x xs e. rw (sym e)) (λ x xs e. rw (sym e, one-add, add-one))

@@ -5,8 +5,9 @@ use Rattle.job.specs.declared.calls.Entry.{Entry}
 use Rattle.job.specs.declared.calls.Call.{Call}
 use Rattle.job.specs.declared.calls.CallKind.{CallKind}
 use Rattle.job.specs.declared.faults.Expected.TheVariants.{HexPairs}
-use Rattle.job.specs.declared.faults.LineError.{LineError}
-use Rattle.job.specs.declared.faults.LineError.TheVariants.{Awaited, Memory}
+use Rattle.job.specs.declared.faults.Expected.{Expected}
+use Rattle.job.specs.declared.faults.Unread.{Unread}
+use Rattle.job.specs.declared.faults.Unread.TheVariants.{Fault, Memory}
 use Rattle.job.specs.declared.words.Flag.TheVariants.{Exact, Lone, Plain}
 use Rattle.job.specs.declared.words.Form.{Form}
 use Rattle.job.specs.declared.words.Form.TheVariants.{AsItStands, Hex}
@@ -36,13 +37,13 @@ flag_of (Hex Lone) bytes = true
 flag_of (Hex Plain) bytes = false
 
 -- what reading a call's text answers
-abbrev pub TextRead : Form → List ℕ → Result (Vec ℕ Global) LineError → Type 0
+abbrev pub TextRead : Form → List ℕ → Result (Vec ℕ Global) (Unread Expected) → Type 0
 TextRead form argument (Ok bytes) = text_of form argument ≡ Some (vec_items bytes)
-TextRead form argument (Err (Awaited e)) = (e ≡ HexPairs) × (text_of form argument ≡ None)
+TextRead form argument (Err (Fault e)) = (e ≡ HexPairs) × (text_of form argument ≡ None)
 TextRead form argument (Err Memory) = Unit {0}
 
 -- what reading a call answers
-abbrev pub CallRead : CallKind → Form → List ℕ → Result Call LineError → Type 0
+abbrev pub CallRead : CallKind → Form → List ℕ → Result Call (Unread Expected) → Type 0
 CallRead kind form argument (Ok call) = (call.kind ≡ kind) × (text_of form argument ≡ Some (vec_items call.bytes)) × (call.lone ≡ flag_of form (vec_items call.bytes))
-CallRead kind form argument (Err (Awaited e)) = (e ≡ HexPairs) × (text_of form argument ≡ None)
+CallRead kind form argument (Err (Fault e)) = (e ≡ HexPairs) × (text_of form argument ≡ None)
 CallRead kind form argument (Err Memory) = Unit {0}

@@ -2,8 +2,9 @@
 use Rattle.std.specs.Prelude.{◌≡◌, ℕ, ◌+◌, ◌-◌, ◌*◌, Bool, cond, ◌&&◌, List, [], ◌∷◌, Some, None, Ok, Err, vec_items, Option, Result, Vec, nat_le}
 use Rattle.std.specs.declared.alloc.Global.{Global}
 use Rattle.job.specs.declared.faults.Expected.TheVariants.{HexPairs}
-use Rattle.job.specs.declared.faults.LineError.{LineError}
-use Rattle.job.specs.declared.faults.LineError.TheVariants.{Awaited, Memory}
+use Rattle.job.specs.declared.faults.Expected.{Expected}
+use Rattle.job.specs.declared.faults.Unread.{Unread}
+use Rattle.job.specs.declared.faults.Unread.TheVariants.{Fault, Memory}
 use Rattle.job.specs.Lines.{blank}
 
 abbrev pub between : ℕ → ℕ → ℕ → Bool
@@ -37,7 +38,7 @@ pairs (high ∷ []) = cond (blank high) (Some []) None
 pairs (high ∷ low ∷ rest) = cond (blank high) (pairs (low ∷ rest)) (put (pair high low) (pairs rest))
 
 -- what reading pairs answers: their bytes, or that they are none, or that memory is wanting
-abbrev pub PairsRead : List ℕ → Result (Vec ℕ Global) LineError → Type 0
+abbrev pub PairsRead : List ℕ → Result (Vec ℕ Global) (Unread Expected) → Type 0
 PairsRead text (Ok bytes) = pairs text ≡ Some (vec_items bytes)
-PairsRead text (Err (Awaited e)) = (e ≡ HexPairs) × (pairs text ≡ None)
+PairsRead text (Err (Fault e)) = (e ≡ HexPairs) × (pairs text ≡ None)
 PairsRead text (Err Memory) = Unit {0}

@@ -2,15 +2,13 @@
 use Rattle.std.specs.Prelude.{◌≡◌, ℕ, ◌+◌, Bool, true, false, cond, ◌||◌, List, [], ◌∷◌, ◌++◌, map, length, is_some, Some, None, Ok, Err, vec_items, Option, Result, ◌==◌}
 use Rattle.std.specs.Option.{unwrap_or}
 use Rattle.job.specs.declared.calls.Job.{Job}
-use Rattle.job.specs.declared.calls.JobOptions.{JobOptions}
+use Rattle.options.specs.declared.CodegenOptions.{CodegenOptions}
 use Rattle.job.specs.declared.calls.CallKind.{CallKind}
 use Rattle.job.specs.declared.faults.Expected.{Expected}
 use Rattle.job.specs.declared.faults.Expected.TheVariants.{Keyword, OptionsOnce, OptionsFirst, LimitOnce, LimitFirst, HexPairs}
 use Rattle.job.specs.declared.faults.JobFault.{JobFault}
-use Rattle.job.specs.declared.faults.JobError.{JobError}
-use Rattle.job.specs.declared.faults.JobError.TheVariants as job_error
-use Rattle.job.specs.declared.faults.LineError.{LineError}
-use Rattle.job.specs.declared.faults.LineError.TheVariants.{Awaited, Memory}
+use Rattle.job.specs.declared.faults.Unread.{Unread}
+use Rattle.job.specs.declared.faults.Unread.TheVariants.{Fault, Memory}
 use Rattle.job.specs.declared.reading.Draft.{Draft}
 use Rattle.job.specs.declared.words.Form.{Form}
 use Rattle.job.specs.declared.words.Keyword.{Keyword as AnyKeyword}
@@ -22,11 +20,11 @@ use Rattle.job.specs.Settings.{options, options_of, limit_of}
 
 -- what the lines so far come to
 pub record Sketch : Type 0 where
-  pub options : Option JobOptions
+  pub options : Option CodegenOptions
   pub limit : Option ℕ
   pub calls : List CallAt
 
-abbrev pub sketch : Option JobOptions → Option ℕ → List CallAt → Sketch
+abbrev pub sketch : Option CodegenOptions → Option ℕ → List CallAt → Sketch
 sketch o n calls = record { options = o; limit = n; calls = calls }
 
 abbrev pub drafted : Draft → Sketch
@@ -39,11 +37,11 @@ whole j = sketch (Some j.options) j.limit (map call_at (vec_items j.calls))
 abbrev pub settled : Sketch → Sketch
 settled d = sketch (Some (unwrap_or d.options (options false false false))) d.limit d.calls
 
--- a setting stands before the first call, and once
-abbrev pub setting : Sketch → Bool → Expected → Expected → Result Sketch Expected → Result Sketch Expected
-setting d already first once next = cond (length d.calls == 0) (cond already (Err once) next) (Err first)
+-- whether a setting may stand here: before the first call, and once
+abbrev pub may_set : Sketch → Bool → Expected → Expected → Result Unit Expected
+may_set d already first once = cond (length d.calls == 0) (cond already (Err once) (Ok tt)) (Err first)
 
-abbrev pub with_options : Sketch → Result JobOptions Expected → Result Sketch Expected
+abbrev pub with_options : Sketch → Result CodegenOptions Expected → Result Sketch Expected
 with_options d (Ok o) = Ok (sketch (Some o) d.limit d.calls)
 with_options d (Err e) = Err e
 
@@ -56,10 +54,10 @@ with_call d n kind form None = Err HexPairs
 with_call d n kind form (Some bytes) = Ok (sketch d.options d.limit (d.calls ++ record { line = n; kind = kind; bytes = bytes; lone = flag_of form bytes } ∷ []))
 
 abbrev pub options_line : Sketch → List ℕ → Result Sketch Expected
-options_line d argument = setting d (is_some d.options) OptionsFirst OptionsOnce (with_options d (options_of argument))
+options_line d argument = elim (may_set d (is_some d.options) OptionsFirst OptionsOnce) [ Err e ↦ Err e | Ok u ↦ with_options d (options_of argument) ]
 
 abbrev pub limit_line : Sketch → List ℕ → Result Sketch Expected
-limit_line d argument = setting d (is_some d.limit) LimitFirst LimitOnce (with_limit d (limit_of argument))
+limit_line d argument = elim (may_set d (is_some d.limit) LimitFirst LimitOnce) [ Err e ↦ Err e | Ok u ↦ with_limit d (limit_of argument) ]
 
 abbrev pub call_line : Sketch → ℕ → CallKind → Form → List ℕ → Result Sketch Expected
 call_line d n kind form argument = with_call d n kind form (text_of form argument)
@@ -77,9 +75,9 @@ line_on d n line = cond (ignored line) (Ok d) (keyed d n (keyword_of (word line)
 abbrev pub fault : ℕ → Expected → JobFault
 fault n e = record { line = n; expected = e }
 
-abbrev pub faulted : LineError → ℕ → JobError
-faulted (Awaited e) n = job_error.Fault (fault n e)
-faulted Memory n = job_error.Memory
+abbrev pub faulted : Unread Expected → ℕ → Unread JobFault
+faulted (Fault e) n = Fault (fault n e)
+faulted Memory n = Memory
 
 -- the lines from number `n` on, behind those that came to `d`
 abbrev pub job_from : ℕ → Sketch → List (List ℕ) → Result Sketch JobFault
@@ -104,19 +102,14 @@ abbrev pub call_among : List (List ℕ) → Bool
 call_among [] = false
 call_among (line ∷ rest) = is_call line || call_among rest
 
--- what taking a setting answers and leaves, where `x` is what its line makes
-abbrev pub SettingTaken : Result Sketch Expected → Result Unit Expected → Sketch → Type 0
-SettingTaken x (Ok u) after = x ≡ Ok after
-SettingTaken x (Err e) after = x ≡ Err e
-
 -- what taking a line answers and leaves, where `x` is what the line makes; memory is wanted for a call alone
-abbrev pub LineTaken : Bool → Result Sketch Expected → Result Unit LineError → Sketch → Type 0
+abbrev pub LineTaken : Bool → Result Sketch Expected → Result Unit (Unread Expected) → Sketch → Type 0
 LineTaken call x (Ok u) after = x ≡ Ok after
-LineTaken call x (Err (Awaited e)) after = x ≡ Err e
+LineTaken call x (Err (Fault e)) after = x ≡ Err e
 LineTaken call x (Err Memory) after = true ≡ call
 
 -- what reading a job answers; memory is wanted only where some line is a call's
-abbrev pub JobRead : List ℕ → Result Job JobError → Type 0
+abbrev pub JobRead : List ℕ → Result Job (Unread JobFault) → Type 0
 JobRead text (Ok job) = job_of text ≡ Ok (whole job)
-JobRead text (Err (job_error.Fault f)) = job_of text ≡ Err f
-JobRead text (Err job_error.Memory) = true ≡ call_among (lines text)
+JobRead text (Err (Fault f)) = job_of text ≡ Err f
+JobRead text (Err Memory) = true ≡ call_among (lines text)

@@ -1,4 +1,5 @@
 pub mod Lines
+pub mod WordsLeft
 pub mod Words
 pub mod Hex
 pub mod Settings

@@ -1,40 +1,37 @@
 -- What stands behind `options` and `limit`.
-use Rattle.std.specs.Prelude.{ℕ, ◌+◌, ◌-◌, ◌*◌, Bool, true, false, cond, not, ◌&&◌, ◌||◌, List, [], ◌∷◌, length, Some, None, Ok, Err, codes, Option, Result, ◌==◌, nat_le}
+use Rattle.std.specs.Prelude.{◌≡◌, ℕ, ◌+◌, ◌-◌, ◌*◌, Bool, true, false, cond, ◌&&◌, List, [], ◌∷◌, Some, None, Ok, Err, codes, Option, Result, nat_le}
 use Rattle.std.specs.Option.{ok_or}
-use Rattle.job.specs.Lines.{same, trim, word, behind, words}
-use Rattle.job.specs.declared.calls.JobOptions.{JobOptions}
+use Rattle.std.specs.Str.{bytes_eq}
+use Rattle.job.specs.Lines.{words}
+use Rattle.options.specs.declared.CodegenOptions.{CodegenOptions}
 use Rattle.job.specs.declared.faults.Expected.{Expected}
 use Rattle.job.specs.declared.faults.Expected.TheVariants.{OptionName, OptionOnce, LimitNumber}
-use Rattle.job.specs.declared.settings.Choice.{Choice}
-use Rattle.job.specs.declared.settings.Choice.TheVariants.{SingleQuote, Minify, AsciiOnly}
 
-abbrev pub choice_of : List ℕ → Option Choice
-choice_of w =
-    cond (same w (codes "single_quote")) (Some SingleQuote)
-    (cond (same w (codes "minify")) (Some Minify)
-    (cond (same w (codes "ascii_only")) (Some AsciiOnly) None))
-
-abbrev pub options : Bool → Bool → Bool → JobOptions
+abbrev pub options : Bool → Bool → Bool → CodegenOptions
 options single minify ascii = record { single_quote = single; minify = minify; ascii_only = ascii }
 
-abbrev pub once : Bool → JobOptions → Result JobOptions Expected
-once already chosen = cond already (Err OptionOnce) (Ok chosen)
+-- what taking a setting answers and leaves, where `x` is what the setting makes
+abbrev pub Taken : {A : Type 0} → Result A Expected → Result Unit Expected → A → Type 0
+Taken x (Ok u) after = x ≡ Ok after
+Taken x (Err e) after = x ≡ Err e
 
 -- an option is set at most once
-abbrev pub with_choice : JobOptions → Choice → Result JobOptions Expected
-with_choice o SingleQuote = once o.single_quote (options true o.minify o.ascii_only)
-with_choice o Minify = once o.minify (options o.single_quote true o.ascii_only)
-with_choice o AsciiOnly = once o.ascii_only (options o.single_quote o.minify true)
+abbrev pub once : {A : Type 0} → Bool → A → Result A Expected
+once already chosen = cond already (Err OptionOnce) (Ok chosen)
 
-abbrev pub with_name : JobOptions → List ℕ → Result JobOptions Expected
-with_name o name = elim (choice_of name) [ None ↦ Err OptionName | Some choice ↦ with_choice o choice ]
+-- the options with the one of this name set as well
+abbrev pub with_name : CodegenOptions → List ℕ → Result CodegenOptions Expected
+with_name o name =
+    cond (bytes_eq name (codes "single_quote")) (once o.single_quote (options true o.minify o.ascii_only))
+    (cond (bytes_eq name (codes "minify")) (once o.minify (options o.single_quote true o.ascii_only))
+    (cond (bytes_eq name (codes "ascii_only")) (once o.ascii_only (options o.single_quote o.minify true)) (Err OptionName)))
 
 -- the options that the words name, beside those that are set already
-abbrev pub chosen_from : JobOptions → List (List ℕ) → Result JobOptions Expected
+abbrev pub chosen_from : CodegenOptions → List (List ℕ) → Result CodegenOptions Expected
 chosen_from o [] = Ok o
 chosen_from o (name ∷ names) = elim (with_name o name) [ Err e ↦ Err e | Ok more ↦ chosen_from more names ]
 
-abbrev pub options_of : List ℕ → Result JobOptions Expected
+abbrev pub options_of : List ℕ → Result CodegenOptions Expected
 options_of text = chosen_from (options false false false) (words text)
 
 -- the number so far, and what one more digit makes of it, where that is no more than 65536
@@ -46,8 +43,12 @@ abbrev pub number_from : ℕ → List ℕ → Option ℕ
 number_from n [] = Some n
 number_from n (b ∷ rest) = elim (with_digit n b) [ None ↦ None | Some m ↦ number_from m rest ]
 
+-- the number that the only word writes
+abbrev pub number_in : List (List ℕ) → Option ℕ
+number_in [] = None
+number_in (digits ∷ []) = number_from 0 digits
+number_in (digits ∷ more ∷ words) = None
+
 -- one number between blanks, and nothing else
 abbrev pub limit_of : List ℕ → Result ℕ Expected
-limit_of text =
-    cond (length (word (trim text)) == 0 || not (length (trim (behind (trim text))) == 0)) (Err LimitNumber)
-    (ok_or (number_from 0 (word (trim text))) LimitNumber)
+limit_of text = ok_or (number_in (words text)) LimitNumber

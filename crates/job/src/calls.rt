@@ -1,31 +1,17 @@
 //! What a job comes to.
-ghost use Rattle.std.specs.Prelude.{◌≡◌, codes};
+ghost use Rattle.std.specs.Prelude.{◌≡◌, Some};
 ghost use Rattle.job.specs.Words.{spelled};
+
+use options::CodegenOptions;
+use std::fmt;
 
 /// A whole job: its settings, then its calls in the order of their lines.
 #[derive(Drop)]
 pub struct Job {
-    pub options: JobOptions,
+    pub options: CodegenOptions,
     /// The page's quota in bytes, where the job sets one.
     pub limit: Option<usize>,
     pub calls: Vec<Entry>,
-}
-
-/// How texts are printed.
-#[derive(Clone, Copy, Debug, PartialEq)]
-pub struct JobOptions {
-    pub single_quote: bool,
-    pub minify: bool,
-    pub ascii_only: bool,
-}
-
-impl JobOptions {
-    /// What holds where the job has no `options` line.
-    pub const NONE: JobOptions = JobOptions {
-        single_quote: false,
-        minify: false,
-        ascii_only: false,
-    };
 }
 
 /// A call and its line, counted from 1.
@@ -40,7 +26,7 @@ pub struct Entry {
 pub struct Call {
     pub kind: CallKind,
     pub bytes: Vec<u8>,
-    /// Whether the text is said to hold a surrogate that stands alone.
+    /// Whether the text is said to hold a surrogate that stands alone: a flag beside the text, as the format has it.
     pub lone: bool,
 }
 
@@ -56,6 +42,12 @@ pub enum CallKind {
 }
 
 impl CallKind {
+    pub(crate) const ALL: [CallKind; 3] = [
+        CallKind::Quoted,
+        CallKind::QuotedOrBacktick,
+        CallKind::Template,
+    ];
+
     /// The keyword of the call.
     pub fn keyword(self) -> &'static str
         ensures the_keyword { result.now ≡ spelled self }
@@ -65,5 +57,13 @@ impl CallKind {
             CallKind::QuotedOrBacktick => "string-bt",
             CallKind::Template => "as-template",
         }
+    }
+}
+
+impl fmt::Display for CallKind {
+    ghost output = { λ kind. Some (spelled kind) };
+
+    fn fmt<W: fmt::Write>(&self, f: &mut fmt::Formatter<W>) -> fmt::Result {
+        f.write_str(self.keyword())
     }
 }

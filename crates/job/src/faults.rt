@@ -2,7 +2,7 @@
 ghost use Rattle.std.specs.Prelude.{◌≡◌, Some};
 ghost use Rattle.job.specs.Jobs.{faulted};
 ghost use Rattle.job.specs.Messages.{awaited, told};
-ghost use Rattle.job.specs.declared.faults.LineError.TheVariants.{Awaited, Memory};
+ghost use Rattle.job.specs.declared.faults.Unread.TheVariants.{Fault, Memory};
 
 use std::alloc::{AllocError, AllocFailed};
 use std::fmt;
@@ -41,11 +41,10 @@ impl Expected {
 }
 
 impl fmt::Display for Expected {
-    ghost output = { λ e. Some (awaited e) };
+    ghost output = { λ expected. Some (awaited expected) };
 
     fn fmt<W: fmt::Write>(&self, f: &mut fmt::Formatter<W>) -> fmt::Result {
-        let words = self.words();
-        write!(f, "{words}")
+        f.write_str(self.words())
     }
 }
 
@@ -60,60 +59,58 @@ impl fmt::Display for JobFault {
     ghost output = { λ f. Some (told f) };
 
     fn fmt<W: fmt::Write>(&self, f: &mut fmt::Formatter<W>) -> fmt::Result {
-        let line = self.line;
-        let expected = self.expected;
+        let JobFault { line, expected } = self;
         write!(f, "line {line}: expected {expected}")
     }
 }
 
-/// Why a job was not read.
+/// Why something was not read.
 #[derive(Clone, Copy, Debug, PartialEq)]
-pub enum JobError {
-    /// A line is not one of a job.
-    Fault(JobFault),
-    /// There is no memory for the job's texts.
+pub enum Unread<F> {
+    /// It has a fault.
+    Fault(F),
+    /// There is no memory for its texts.
     Memory,
 }
 
-/// Why a line was not read: as `JobError`, with the line still to be said.
-#[derive(Clone, Copy, Debug, PartialEq)]
-pub enum LineError {
-    Awaited(Expected),
-    Memory,
-}
+/// Why a job was not read: a line is not one of a job, or memory is wanting.
+pub type JobError = Unread<JobFault>;
 
-impl From<AllocError> for LineError {
+/// Why a line was not read.
+pub(crate) type LineError = Unread<Expected>;
+
+impl<F> From<AllocError> for Unread<F> {
     ghost from_gives = { λ _ r. r ≡ Memory };
 
-    fn from(_e: AllocError) -> LineError {
-        LineError::Memory
+    fn from(_e: AllocError) -> Unread<F> {
+        Unread::Memory
     }
 }
 
-impl<T: Drop> From<AllocFailed<T>> for LineError {
+impl<F, T: Drop> From<AllocFailed<T>> for Unread<F> {
     ghost from_gives = { λ _ r. r ≡ Memory };
 
-    fn from(_e: AllocFailed<T>) -> LineError {
-        LineError::Memory
+    fn from(_e: AllocFailed<T>) -> Unread<F> {
+        Unread::Memory
     }
 }
 
-impl From<Expected> for LineError {
-    ghost from_gives = { λ x r. r ≡ Awaited x };
+impl From<Expected> for Unread<Expected> {
+    ghost from_gives = { λ expected r. r ≡ Fault expected };
 
-    fn from(expected: Expected) -> LineError {
-        LineError::Awaited(expected)
+    fn from(awaited: Expected) -> Unread<Expected> {
+        Unread::Fault(awaited)
     }
 }
 
-impl LineError {
+impl Unread<Expected> {
     /// The error with its line.
-    pub fn at(self, line: usize) -> JobError
+    pub(crate) fn at(self, line: usize) -> JobError
         ensures with_its_line { result ≡ faulted self line }
     {
         match self {
-            LineError::Awaited(expected) => JobError::Fault(JobFault { line, expected }),
-            LineError::Memory => JobError::Memory,
+            Unread::Fault(expected) => Unread::Fault(JobFault { line, expected }),
+            Unread::Memory => Unread::Memory,
         }
     }
 }

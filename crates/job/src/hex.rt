@@ -7,24 +7,19 @@ use crate::faults::{Expected, LineError};
 use std::alloc::Global;
 
 /// The value of a hex digit, of either case.
+// The library's digit as a byte; crate `text` has it as a number.
 pub fn hex_value(b: u8) -> Option<u8>
     ensures value_of_a_digit { result ≡ digit b }
 {
-    match b {
-        b'0'..=b'9' => Some(b - b'0'),
-        b'a'..=b'f' => Some(b - b'a' + 10),
-        b'A'..=b'F' => Some(b - b'A' + 10),
-        _ => None,
-    }
+    let value = char::from(b).to_digit(16)?;
+    Some(value as u8)
 }
 
 /// The byte that two hex digits write.
 pub fn hex_pair(high: u8, low: u8) -> Option<u8>
     ensures byte_of_a_pair { result ≡ pair high low }
 {
-    let high = hex_value(high)?;
-    let low = hex_value(low)?;
-    Some(high * 16 + low)
+    Some(hex_value(high)? * 16 + hex_value(low)?)
 }
 
 /// The bytes that pairs of hex digits write, with any blanks between the pairs.
@@ -32,20 +27,16 @@ pub fn read_pairs(heap: Global, text: &[u8]) -> Result<Vec<u8>, LineError>
     ensures bytes_of_all_pairs { PairsRead text.now result }
 {
     let mut bytes = Vec::new(heap);
-    let mut at = 0;
-    while at < text.len() {
-        if is_blank(text[at]) {
-            at += 1;
-            continue;
-        }
-        if text.len() - at < 2 {
-            return Err(LineError::Awaited(Expected::HexPairs));
-        }
-        let Some(byte) = hex_pair(text[at], text[at + 1]) else {
-            return Err(LineError::Awaited(Expected::HexPairs));
+    let mut rest = text;
+    loop {
+        rest = match rest {
+            [] => return Ok(bytes),
+            [first, after @ ..] if is_blank(first) => after,
+            [_] => return Err(LineError::Fault(Expected::HexPairs)),
+            [high, low, after @ ..] => {
+                bytes.push(hex_pair(*high, *low).ok_or(Expected::HexPairs)?)?;
+                after
+            },
         };
-        bytes.push(byte)?;
-        at += 2;
     }
-    Ok(bytes)
 }

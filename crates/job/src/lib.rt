@@ -8,7 +8,7 @@
 //!
 //! No function here prints or reads a file. `read_job` answers what `specs/Jobs.antt` says a text is: the job, or its first
 //! line that is none of a job's with what was expected there; only want of memory is left open, and only for a job with a
-//! call. What each line adds is defined there from the smaller definitions: `Lines`, `Words`, `Hex`, `Settings` and `Calls`;
+//! call. What each line adds is defined there from the smaller definitions: `Lines`, `WordsLeft`, `Words`, `Hex`, `Settings` and `Calls`;
 //! the exact flag of a text is crate `text`'s.
 #![tactic(auto)]
 
@@ -21,9 +21,10 @@ mod settings;
 mod surrogates;
 mod words;
 
-pub use calls::{Call, CallKind, Entry, Job, JobOptions};
-pub use faults::{Expected, JobError, JobFault};
+pub use calls::{Call, CallKind, Entry, Job};
+pub use faults::{Expected, JobError, JobFault, Unread};
 pub use hex::{hex_pair, hex_value};
+pub use options::CodegenOptions;
 pub use reading::read_job;
 pub use settings::MAX_LIMIT;
 pub use surrogates::holds_surrogate;

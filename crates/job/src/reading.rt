@@ -1,21 +1,23 @@
 //! Reads a whole job.
 ghost use Rattle.std.specs.Prelude.{◌≡◌, true};
 ghost use Rattle.job.specs.Calls.{TextRead, CallRead, flag_of};
-ghost use Rattle.job.specs.Jobs.{SettingTaken, LineTaken, JobRead, is_call, drafted, line_on, options_line, limit_line, call_line};
+ghost use Rattle.job.specs.Settings.{Taken};
+ghost use Rattle.job.specs.Jobs.{LineTaken, JobRead, is_call, drafted, may_set, line_on, options_line, limit_line, call_line};
 
-use crate::bytes::{LINE_FEED, Stop, cut, is_ignored};
-use crate::calls::{Call, CallKind, Entry, Job, JobOptions};
+use crate::bytes::{LINE_FEED, cut_word, is_ignored};
+use crate::calls::{Call, CallKind, Entry, Job};
 use crate::faults::{Expected, JobError, LineError};
 use crate::hex::read_pairs;
 use crate::settings::{limit_of, options_of};
 use crate::surrogates::holds_surrogate;
 use crate::words::{Flag, Form, Keyword, keyword_of};
+use options::CodegenOptions;
 use std::alloc::Global;
 
 /// The lines read so far.
 #[derive(Drop)]
 struct Draft {
-    options: Option<JobOptions>,
+    options: Option<CodegenOptions>,
     limit: Option<usize>,
     calls: Vec<Entry>,
 }
@@ -29,15 +31,11 @@ pub fn read_job(heap: Global, text: &[u8]) -> Result<Job, JobError>
         limit: None,
         calls: Vec::new(heap),
     };
-    let mut rest = text;
-    let mut number = 0;
-    while !rest.is_empty() {
-        let (line, after) = cut(rest, Stop::Byte(LINE_FEED));
-        number += 1;
+    for (before, line) in text.split(|b| *b == LINE_FEED).enumerate() {
+        let number = before + 1;
         if let Err(error) = draft.take_line(heap, number, line) {
             return Err(error.at(number));
         }
-        rest = after;
     }
     let Draft {
         options,
@@ -45,7 +43,7 @@ pub fn read_job(heap: Global, text: &[u8]) -> Result<Job, JobError>
         calls,
     } = draft;
     Ok(Job {
-        options: options.unwrap_or(JobOptions::NONE),
+        options: options.unwrap_or(CodegenOptions::NONE),
         limit,
         calls,
     })
@@ -59,40 +57,44 @@ impl Draft {
         if is_ignored(line) {
             return Ok(());
         }
-        let (word, argument) = cut(line, Stop::Blank);
+        let (word, argument) = cut_word(line);
         match keyword_of(word) {
-            None => Err(LineError::Awaited(Expected::Keyword)),
+            None => Err(LineError::Fault(Expected::Keyword)),
             Some(Keyword::Options) => Ok(self.take_options(argument)?),
             Some(Keyword::Limit) => Ok(self.take_limit(argument)?),
             Some(Keyword::Set(kind, form)) => self.take_call(heap, number, kind, form, argument),
         }
     }
 
-    fn take_options(&mut self, argument: &[u8]) -> Result<(), Expected>
-        ensures once_before_the_first_call { SettingTaken (options_line (drafted self.old) argument.now) result (drafted self.new) }
+    /// Whether a setting may stand here: before the first call, and once.
+    fn may_set(&self, already: bool, first: Expected, once: Expected) -> Result<(), Expected>
+        ensures before_the_first_call_and_once { result ≡ may_set (drafted self.now) already first once }
     {
         if !self.calls.is_empty() {
-            return Err(Expected::OptionsFirst);
+            return Err(first);
         }
-        if self.options.is_some() {
-            return Err(Expected::OptionsOnce);
+        if already {
+            return Err(once);
         }
-        let options = options_of(argument)?;
-        self.options = Some(options);
+        Ok(())
+    }
+
+    // Two functions: each has its words, its field and its parser; what they share is `may_set`.
+    fn take_options(&mut self, argument: &[u8]) -> Result<(), Expected>
+        ensures what_the_line_makes { Taken (options_line (drafted self.old) argument.now) result (drafted self.new) }
+    {
+        let already = self.options.is_some();
+        self.may_set(already, Expected::OptionsFirst, Expected::OptionsOnce)?;
+        self.options = Some(options_of(argument)?);
         Ok(())
     }
 
     fn take_limit(&mut self, argument: &[u8]) -> Result<(), Expected>
-        ensures once_before_the_first_call { SettingTaken (limit_line (drafted self.old) argument.now) result (drafted self.new) }
+        ensures what_the_line_makes { Taken (limit_line (drafted self.old) argument.now) result (drafted self.new) }
     {
-        if !self.calls.is_empty() {
-            return Err(Expected::LimitFirst);
-        }
-        if self.limit.is_some() {
-            return Err(Expected::LimitOnce);
-        }
-        let limit = limit_of(argument)?;
-        self.limit = Some(limit);
+        let already = self.limit.is_some();
+        self.may_set(already, Expected::LimitFirst, Expected::LimitOnce)?;
+        self.limit = Some(limit_of(argument)?);
         Ok(())
     }
 
@@ -113,6 +115,7 @@ impl Draft {
 }
 
 /// The text that a call's argument writes.
+// A match, here and for the flag: a form is a value of the keyword's table, of which there are two.
 fn text_of(heap: Global, form: Form, argument: &[u8]) -> Result<Vec<u8>, LineError>
     ensures as_its_form_says { TextRead form argument.now result }
 {

@@ -9,17 +9,14 @@ const LEAD: u8 = 0xED;
 fn begins_surrogate(lead: u8, next: u8) -> bool
     ensures lead_then_high_half { result ≡ (lead == 0xED && nat_le 0xA0 next && nat_le next 0xBF) }
 {
-    lead == LEAD && 0xA0 <= next && next <= 0xBF
+    lead == LEAD && (0xA0..=0xBF).contains(&next)
 }
 
 /// Whether the bytes hold a surrogate anywhere.
 pub fn holds_surrogate(bytes: &[u8]) -> bool
     ensures some_pair_begins_one { result ≡ marked 0 bytes.now }
 {
-    for i in 1..bytes.len() {
-        if begins_surrogate(bytes[i - 1], bytes[i]) {
-            return true;
-        }
-    }
-    false
+    bytes
+        .windows(2)
+        .any(|pair| begins_surrogate(pair[0], pair[1]))
 }

@@ -2,7 +2,7 @@
 ghost use Rattle.std.specs.Prelude.{◌≡◌};
 ghost use Rattle.job.specs.Words.{kind_of, form_of, call_word, keyword_of};
 
-use crate::bytes::{Stop, is_text, run_before};
+use crate::bytes::{is_text, split_before};
 use crate::calls::CallKind;
 
 /// What a line is, by its keyword.
@@ -34,6 +34,7 @@ pub enum Flag {
 }
 
 /// The keyword that a line's first word is.
+#[tactic(auto, unfolding(crate::specs::Words::keyword_of))]
 pub fn keyword_of(word: &[u8]) -> Option<Keyword>
     ensures the_keyword_if_it_is_one { result ≡ keyword_of word.now }
 {
@@ -50,7 +51,7 @@ pub fn keyword_of(word: &[u8]) -> Option<Keyword>
 fn call_word(word: &[u8]) -> Option<Keyword>
     ensures name_and_form { result ≡ call_word word.now }
 {
-    let (name, suffix) = word.split_at(run_before(word, Stop::Byte(b':')));
+    let (name, suffix) = split_before(word, |b| *b == b':');
     let kind = kind_of(name)?;
     let form = form_of(suffix)?;
     Some(Keyword::Set(kind, form))
@@ -59,15 +60,9 @@ fn call_word(word: &[u8]) -> Option<Keyword>
 fn kind_of(name: &[u8]) -> Option<CallKind>
     ensures by_its_keyword { result ≡ kind_of name.now }
 {
-    if is_text(name, "string") {
-        Some(CallKind::Quoted)
-    } else if is_text(name, "string-bt") {
-        Some(CallKind::QuotedOrBacktick)
-    } else if is_text(name, "as-template") {
-        Some(CallKind::Template)
-    } else {
-        None
-    }
+    CallKind::ALL
+        .into_iter()
+        .find(|kind| is_text(name, kind.keyword()))
 }
 
 fn form_of(suffix: &[u8]) -> Option<Form>

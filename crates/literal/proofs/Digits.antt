@@ -1,9 +1,10 @@
 -- The escapes by hexadecimal digits are read as the character.
-use Rattle.std.proofs.Common.{◌≡◌, ℕ, ◌+◌, ◌*◌, ◌/◌, ◌%◌, ◌<◌, ◌≤◌, ltb, List, [], ◌∷◌, ◌++◌, sym, refl, ap, ◌∙◌, subst, arith}
-use Rattle.std.proofs.lemmas.Bool.{cond_both, cond-true, lt-ltb, ltb-true, ltb-false}
+use Rattle.std.proofs.lemmas.Bool.Decides.{nat_tests}
+use Rattle.std.proofs.Common.{◌≡◌, ℕ, ◌+◌, ◌*◌, ◌/◌, ◌%◌, ◌<◌, ◌≤◌, ltb, List, [], ◌∷◌, ◌++◌, refl, subst, arith}
+use Rattle.std.proofs.lemmas.Bool.{cond_both, ltb-true, ltb-false}
 use Rattle.ecma262.specs.Units.{utf16}
 use Rattle.ecma262.specs.Literals.{HexDigit, HexDigits, EscapeSequence}
-use Rattle.ecma262.specs.Literals.HexDigit.{decimal, small, capital}
+use Rattle.ecma262.specs.Literals.HexDigit.{decimal}
 use Rattle.ecma262.specs.Literals.HexDigits.{last, more}
 use Rattle.ecma262.specs.Literals.EscapeSequence.{hex, unicode, code_point}
 use Rattle.literal.specs.Escapes.{hex_digit, five_digits, behind}
@@ -13,14 +14,14 @@ use Rattle.literal.specs.declared.EscapeSequence.TheVariants.{Hex, Unicode, Code
 
 -- a character of one unit, as it was computed from digits
 pub one_unit : (c n : ℕ) → c < 0x10000 → n ≡ c → n ∷ [] ≡ utf16 c
-one_unit c n h e = ap (λ x. x ∷ []) e ∙ sym (cond-true (ltb c 0x10000) _ _ (lt-ltb c 0x10000 h))
+one_unit c n h e = grind (arith, nat_tests)
 
 pub valued : {s rest u v : List ℕ} → u ≡ v → EscapeSequence s rest u → EscapeSequence s rest v
 valued {s} {rest} e h = subst (λ u. EscapeSequence s rest u) e h
 
 pub digit : (letters : HexCase) (n : ℕ) → n < 16 → HexDigit (hex_digit letters n) n
-digit Upper n h = cond_both (ltb n 10) _ _ (λ d. HexDigit d n) (λ t. decimal (ltb-true n 10 t) refl) (λ f. capital (ltb-false n 10 f) h refl)
-digit Lower n h = cond_both (ltb n 10) _ _ (λ d. HexDigit d n) (λ t. decimal (ltb-true n 10 t) refl) (λ f. small (ltb-false n 10 f) h refl)
+digit Upper n h = grind (arith, nat_tests)
+digit Lower n h = grind (arith, nat_tests)
 
 -- a division by 16 more
 pub steps : (c : ℕ) →

@@ -6,9 +6,9 @@ use Rattle.std.proofs.lemmas.Bool.{and_left, ne_eqb, both_ways}
 use Rattle.std.proofs.lemmas.Bool.Decides.{nat_tests}
 use Rattle.ecma262.specs.Lookahead.{opens}
 use Rattle.ecma262.specs.declared.Quote.{Quote}
-use Rattle.ecma262.proofs.Utf8.{encode_1, Encoded, ascii, wide, encoded, Narrow, same_front, eqb_narrow}
+use Rattle.ecma262.proofs.Utf8.{encode_1, Encoded, ascii, wide, encoded, Narrow, same_front}
 use Rattle.literal.specs.Laws.{InBytes, Plain, Standing}
-use Rattle.literal.specs.Escapes.{same_letter, script, tag, literal}
+use Rattle.literal.specs.Escapes.{script, tag, literal}
 use Rattle.literal.proofs.Output.{Absent, absent_more, no_tag, all_ascii}
 use Rattle.literal.proofs.Reading.{read_back}
 
@@ -23,20 +23,11 @@ plain-bytes q text = ascii_bytes (literal q true text) (all_ascii q text)
 
 -- what a text begins with
 
-letter_narrow : (w : ℕ) → w < 0x80 → Narrow (same_letter w)
-letter_narrow w l x h = grind (arith, nat_tests)
-
 pub script_narrow : AllByRecursion Narrow script
-script_narrow = (
-  letter_narrow 0x73 (omega arith),
-  (
-    letter_narrow 0x63 (omega arith),
-    (letter_narrow 0x72 (omega arith), (letter_narrow 0x69 (omega arith), (letter_narrow 0x70 (omega arith), (letter_narrow 0x74 (omega arith), tt)))),
-  ),
-)
+script_narrow = grind (arith, nat_tests)
 
 pub tag_narrow : AllByRecursion Narrow tag
-tag_narrow = (eqb_narrow 0x3C (omega arith), (eqb_narrow 0x2F (omega arith), script_narrow))
+tag_narrow = grind (arith, nat_tests)
 
 -- no tag in code points, none in bytes
 

@@ -1,5 +1,5 @@
 -- What is printed of a character by the escape that was picked for it, and what is known of that escape.
-use Rattle.std.proofs.Common.{◌≡◌, ℕ, Bool, true, false, cond, List, [], ◌∷◌, Some, None, Option, refl, subst, arith}
+use Rattle.std.proofs.Common.{◌≡◌, ℕ, Bool, true, false, cond, List, [], ◌∷◌, Some, None, Option, refl, subst}
 use Rattle.ecma262.specs.declared.Quote.{Quote}
 use Rattle.literal.specs.declared.EscapeSequence.{EscapeSequence}
 use Rattle.literal.specs.Escapes.{Rule, behind, first, pick, rules}
@@ -30,7 +30,7 @@ pub pick_row : (P : EscapeSequence → Type 0) (rs : List Rule) → Rows P rs �
 pick_row P [] rows e i = absurd (none_some e i)
   where
     none_some : (e : EscapeSequence) → ◌≡◌ {A = Option EscapeSequence} None (Some e) → ⊥
-    none_some e i = let z : ◌≡◌ {A = ℕ} 0 1 = cc in omega arith
+    none_some e i = cc
 pick_row P ((b ⇒ d) ∷ rs) rows e i = some_row P b d e (pick rs) rows.0 (pick_row P rs rows.1 e) i
 
 pub picked_quiet : (q : Quote) (ascii : Bool) (before c : ℕ) (cs : List ℕ) (e : EscapeSequence) → pick (rules q ascii before c cs) ≡ Some e → quiet e ≡ true

@@ -11,7 +11,6 @@ use Rattle.literal.specs.RawLaws.{PieceInOneWalk, TaggedInOneWalk, OthersInOneWa
 use Rattle.literal.specs.RawWalk.{backslash_goes, raw_walk}
 use Rattle.literal.specs.declared.NonAsciiEscape.{NonAsciiEscape}
 use Rattle.literal.specs.declared.NonAsciiEscape.TheVariants.{Identifier, RegExp, TemplateRaw, Directive}
-use Rattle.literal.proofs.Encoded.{script_narrow}
 use Rattle.literal.proofs.RawTurns.{Calm, wide_shape, wide-first, gone_first}
 
 -- One step alone is the walk with one flag. The walk without tags does not look at the character before.
@@ -54,11 +53,6 @@ module _ (mode : NonAsciiEscape) where
   at_dollar [] e = absurd (false≢true e)
   at_dollar (d ∷ ds) e = let i : d ≡ 0x24 = grind (arith, nat_tests) in rw i
 
-  -- behind an odd run the first step leaves the next character
-  next_left : (cs : List ℕ) → opens (leb 0x80 ∷ []) (free_dollars true cs) ≡ opens (leb 0x80 ∷ []) cs
-  next_left [] = refl
-  next_left (d ∷ ds) = refl
-
   two_steps : (odd : Bool) (before : ℕ) (t : List ℕ) → raw_walk true true mode false odd before t ≡ ascii_only mode odd (free_dollars odd t)
   two_steps odd before [] = refl
   two_steps odd before (c ∷ cs) =
@@ -81,14 +75,14 @@ module _ (mode : NonAsciiEscape) where
       go odd false b i e h = rw i (λ k. other (leb 0x80 c) (wide_printed mode odd c) k ++ h k)
       go true true b i e h = absurd (false≢true i)
       go false true true i e h = h ∙ at_dollar cs e
-      go false true false i e h = rw (i, next_left cs) (λ k. turn (opens (leb 0x80 ∷ []) cs) (loses_backslash mode) (leb 0x80 c) (wide_printed mode false c) k ++ h k)
+      go false true false i e h = grind (arith, nat_tests)
 
 -- The third step after the others.
 
 -- the character before matters only if it is <, and only at a slash
 same-before : (a b : ℕ) (t : List ℕ) → eqb a 0x3C ≡ eqb b 0x3C → break_tags a t ≡ break_tags b t
 same-before a b [] e = refl
-same-before a b (c ∷ cs) e = ap (λ x. cond (eqb c 0x2F && x && opens script cs) (0x5C ∷ 0x2F ∷ []) (c ∷ []) ++ break_tags c cs) e
+same-before a b (c ∷ cs) e = grind (arith, nat_tests)
 
 no_slash : (a b : ℕ) (t : List ℕ) → opens (eqb 0x2F ∷ []) t ≡ false → break_tags a t ≡ break_tags b t
 no_slash a b [] e = refl
@@ -105,7 +99,7 @@ abbrev pub Plain : (ℕ → Bool) → Type 0
 Plain p = (p 0x5C ≡ false) × (p 0x24 ≡ false) × Narrow p
 
 script-plain : AllByRecursion Plain script
-script-plain = let (a, (b, (c, (d, (e, (f, _)))))) = script_narrow in ((refl, refl, a), ((refl, refl, b), ((refl, refl, c), ((refl, refl, d), ((refl, refl, e), ((refl, refl, f), tt))))))
+script-plain = grind (arith, nat_tests)
 
 untagged : (t : Bool) (x y : List ℕ) → cond (t && false) x y ≡ y
 untagged true x y = refl
@@ -147,9 +141,7 @@ module _ (dollars ascii : Bool) (mode : NonAsciiEscape) where
       behind' = raw_walk dollars ascii mode true (odd_behind odd c) c cs
 
       gone : (odd_behind odd c && backslash_goes dollars ascii mode cs) ≡ true → opens (eqb 0x2F ∷ []) behind ≡ false
-      gone e =
-          let (i, g) = and_parts (odd_behind odd c) (backslash_goes dollars ascii mode cs) e in
-          ap (λ b. opens (eqb 0x2F ∷ []) (raw_walk dollars ascii mode false b c cs)) i ∙ gone_first dollars ascii mode false c cs (eqb 0x2F) [] refl refl g
+      gone e = grind (arith, nat_tests)
 
       escaped : eqb c 0x3C ≡ false → break_tags c behind ≡ behind' → break_tags before (wide_printed mode odd c ++ behind) ≡ wide_printed mode odd c ++ behind'
       escaped n h =

@@ -1,45 +1,36 @@
 -- The code points of a literal: ASCII if that is asked for, no surrogate, and no </script.
-use Rattle.std.proofs.Common.{◌≡◌, ℕ, zero, suc, ◌%◌, ◌<◌, ◌≤◌, Bool, true, false, eqb, ltb, ◌≢◌, List, [], ◌∷◌, ◌++◌, drop, refl, ⊎_elim, append_assoc, arith}
+use Rattle.std.proofs.Common.{◌≡◌, ℕ, zero, suc, ◌%◌, ◌<◌, ◌≤◌, Bool, true, false, eqb, ◌≢◌, List, [], ◌∷◌, ◌++◌, drop, refl, ⊎_elim, append_assoc, arith}
 use lib.Utf8.{scalar, scalars}
 use Rattle.std.specs.List.{AllByRecursion}
-use Rattle.std.proofs.lemmas.Bool.{and_from, and_left, and_right, cases_eq, cond_both, ne_eqb}
+use Rattle.std.proofs.lemmas.Bool.{and_from, and_left, and_right, cases_eq, ne_eqb}
 use Rattle.std.proofs.ByRecursion.{All-append, All-weaker}
 use Rattle.std.proofs.lemmas.Bool.Decides.{nat_tests}
 use Rattle.ecma262.specs.Units.{Text, mark}
 use Rattle.ecma262.specs.declared.Quote.{Quote}
 use Rattle.ecma262.specs.declared.Quote.TheVariants.{Single, Double, Backtick}
 use Rattle.ecma262.specs.Lookahead.{opens}
-use Rattle.ecma262.specs.Literals.{HexDigit}
-use Rattle.ecma262.specs.Literals.HexDigit.{decimal, small, capital}
 use Rattle.literal.specs.Quiet.{quiet}
 use Rattle.literal.specs.Laws.{Tagless, Scalars}
 use Rattle.literal.specs.declared.HexCase.{HexCase}
 use Rattle.literal.specs.declared.EscapeSequence.{EscapeSequence}
-use Rattle.literal.specs.Escapes.{hex_digit, five_digits, behind, script, tag, rules, other_rules, first, printed, literal}
+use Rattle.literal.specs.Escapes.{hex_digit, behind, script, tag, rules, other_rules, first, printed, literal}
 use Rattle.literal.specs.declared.EscapeSequence.TheVariants.{Null, Character, Hex, Unicode, CodePoint}
 use Rattle.literal.proofs.Rules.{Rows, by_rules, pass, rows_pass}
-use Rattle.literal.proofs.Digits.{digit}
 use Rattle.literal.proofs.Front.{front, by_quote}
 
 -- a character that an escape is made of
 abbrev pub Quiet : ℕ → Type 0
 Quiet x = (x < 128) × (x ≢ 0x3C)
 
-digit-quiet : {d v : ℕ} → HexDigit d v → Quiet d
-digit-quiet (decimal l e) = omega arith
-digit-quiet (small g l e) = omega arith
-digit-quiet (capital g l e) = omega arith
-
 pub hex-quiet : (letters : HexCase) (n : ℕ) → Quiet (hex_digit letters (n % 0x10))
-hex-quiet letters n = digit-quiet (digit letters (n % 0x10) (omega arith))
+hex-quiet letters n = grind (arith, nat_tests)
 
 behind-quiet : (c : ℕ) (e : EscapeSequence) → quiet e ≡ true → AllByRecursion Quiet (behind c e)
 behind-quiet c Null s = omega arith
 behind-quiet c (Character e) s = grind (arith, nat_tests)
 behind-quiet c Hex s = omega (arith, hex-quiet)
 behind-quiet c (Unicode letters) s = omega (arith, hex-quiet)
-behind-quiet c CodePoint s =
-    cond_both (ltb c 0x100000) [] (0x31 ∷ []) (λ ds. AllByRecursion Quiet (0x75 ∷ 0x7B ∷ (ds ++ five_digits c))) (λ _. omega (arith, hex-quiet)) (λ _. omega (arith, hex-quiet))
+behind-quiet c CodePoint s = grind (arith, nat_tests)
 
 quiet-rules : (q : Quote) (ascii : Bool) (before c : ℕ) (cs : List ℕ) → pass quiet (rules q ascii before c cs) ≡ true
 unfolding other_rules

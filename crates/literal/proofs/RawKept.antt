@@ -1,11 +1,10 @@
 -- Raw text that is printed keeps its value, between backticks and between quotes.
-use Rattle.std.proofs.Common.{◌≡◌, ℕ, ◌<◌, ◌≤◌, Bool, true, false, cond, ◌&&◌, eqb, leb, ◌≢◌, ◌⊎◌, List, [], ◌∷◌, ◌++◌, sym, refl, ap, ◌∙◌, subst, inl, inr, ⊎_elim, arith}
-use Rattle.std.proofs.lemmas.Bool.{cond_both, leb-true, leb-false, cases_eq, ne_eqb, lt-leb, le-leb, and_parts, and_right, cases_lt}
+use Rattle.std.proofs.Common.{◌≡◌, ℕ, ◌<◌, ◌≤◌, Bool, true, false, cond, ◌&&◌, eqb, leb, ◌≢◌, ◌⊎◌, List, [], ◌∷◌, ◌++◌, sym, refl, ◌∙◌, subst, inl, inr, ⊎_elim, arith}
+use Rattle.std.proofs.lemmas.Bool.{cond_both, leb-true, leb-false, cases_eq, ne_eqb, le-leb, and_parts, cases_lt}
 use Rattle.std.proofs.lemmas.Bool.Decides.{nat_tests}
 use Rattle.ecma262.specs.Units.{utf16}
 use Rattle.ecma262.specs.Lookahead.{opens}
 use Rattle.ecma262.specs.Literals.{NotAhead, LineTerminator, EscapeSequence, StringCharacter, TemplateCharacter, HexDigit, HexDigits, DecimalDigit, SingleEscapeCharacter, NonEscapeCharacter, LineTerminatorSequence, Character, Characters}
-use Rattle.ecma262.specs.Literals.HexDigit.{decimal, small, capital}
 use Rattle.ecma262.specs.Literals.LineTerminatorSequence.{lf, cr, ls, ps, crlf}
 use Rattle.ecma262.specs.Literals.SingleEscapeCharacter.{single_quote, double_quote, backslash, backspace, form_feed, line_feed, carriage_return, tab, vertical_tab}
 use Rattle.ecma262.specs.declared.Quote.{Quote}
@@ -16,12 +15,12 @@ use Rattle.literal.specs.Escapes.{behind, script}
 use Rattle.literal.specs.declared.HexCase.TheVariants.{Upper}
 use Rattle.literal.specs.declared.EscapeSequence.TheVariants.{Unicode, CodePoint}
 use Rattle.literal.specs.declared.NonAsciiEscape.TheVariants.{TemplateRaw, Directive}
-use Rattle.literal.specs.Raw.{odd_behind, is_separator, wide, wide_printed}
-use Rattle.literal.specs.RawWalk.{backslash_goes, raw_turn, raw_walk}
+use Rattle.literal.specs.Raw.{is_separator, wide, wide_printed}
+use Rattle.literal.specs.RawWalk.{backslash_goes, raw_walk}
 use Rattle.literal.specs.RawLaws.{PieceKept, TaggedKept, DirectiveKept}
 use Rattle.literal.proofs.Digits.{by_four, by_braces}
 use Rattle.literal.proofs.Reading.{slash, dollar}
-use Rattle.literal.proofs.RawTurns.{wide_shape, next_dollar}
+use Rattle.literal.proofs.RawTurns.{wide_shape}
 use Rattle.literal.proofs.RawBack.{tags_back}
 use Rattle.literal.proofs.OneWalk.{piece_in_one_walk, tagged_in_one_walk, others_in_one_walk}
 
@@ -42,11 +41,6 @@ single_ascii carriage_return = omega arith
 single_ascii tab = omega arith
 single_ascii vertical_tab = omega arith
 
-not_special : {d v : ℕ} → HexDigit d v → (eqb d 0x5C ≡ false) × (leb 0x80 d ≡ false) × (eqb d 0x2F ≡ false)
-not_special (decimal l e) = grind (arith, nat_tests)
-not_special (small g l e) = grind (arith, nat_tests)
-not_special (capital g l e) = grind (arith, nat_tests)
-
 -- K is a kind of character: a backslash and what may stand behind it, a dollar sign without a brace, and the separators
 record Kind (K : List ℕ → List ℕ → List ℕ → Type 0) : Type 0 where
   escape : {s r u : List ℕ} → EscapeSequence s r u → K (0x5C ∷ s) r u
@@ -62,11 +56,7 @@ module _ (dollars ascii tags : Bool) (K : List ℕ → List ℕ → List ℕ →
   gone : (P : ℕ → Type 0) → (P 0x5C → ⊥) → (P 0x24 → ⊥) → (before : ℕ) (cs : List ℕ) → backslash_goes dollars ascii TemplateRaw cs ≡ true →
       NotAhead P (raw_walk dollars ascii TemplateRaw tags true before cs)
   gone P b d before [] e = tt
-  gone P b d before (c ∷ cs) e =
-      cond_both (leb 0x80 c && ascii) (wide_printed TemplateRaw true c) (cond (eqb c 0x2F && eqb before 0x3C && opens script cs && tags) (0x5C ∷ 0x2F ∷ []) (c ∷ []))
-      (λ s. NotAhead P (s ++ kept c cs))
-      (λ _. let (x, i, _) = wide_shape TemplateRaw true c in rw i b)
-      (λ n. let i = next_dollar dollars ascii TemplateRaw tags c cs e n in rw i d)
+  gone P b d before (c ∷ cs) e = grind (arith, nat_tests)
 
   -- what is printed first of cs is a backslash, a dollar sign, or what cs begins with
   ahead : (P : ℕ → Type 0) → (P 0x5C → ⊥) → (P 0x24 → ⊥) → (before : ℕ) (cs : List ℕ) → NotAhead P cs → NotAhead P (kept before cs)
@@ -95,13 +85,11 @@ module _ (dollars ascii tags : Bool) (K : List ℕ → List ℕ → List ℕ →
 
   -- a backslash before ASCII, but for the dollar sign
   plainly : (before c : ℕ) (cs : List ℕ) → c < 0x80 → c ≢ 0x24 → kept before (0x5C ∷ c ∷ cs) ≡ 0x5C ∷ c ∷ kept c cs
-  plainly before c cs h d = rw (ne_eqb 0x24 c (omega arith), lt-leb 0x80 c h, and_right (eqb c 0x2F) false refl)
+  plainly before c cs h d = grind (arith, nat_tests)
 
   -- a hexadecimal digit
   digit : {d v : ℕ} (before : ℕ) (cs : List ℕ) → HexDigit d v → kept before (d ∷ cs) ≡ d ∷ kept d cs
-  digit {d} before cs h =
-      let e : (eqb d 0x5C ≡ false) × (leb 0x80 d ≡ false) × (eqb d 0x2F ≡ false) = not_special h in
-      rw (e.0, e.1, e.2)
+  digit {d} before cs h = grind (arith, nat_tests)
 
   digits : {n mv : ℕ} {s rest : List ℕ} (before : ℕ) → HexDigits n s (0x7D ∷ rest) mv → HexDigits n (kept before s) (0x7D ∷ kept 0x7D rest) mv
   digits before (HexDigits.last {rest = rest} d) = rw (digit before rest d) (HexDigits.last d)
@@ -258,7 +246,7 @@ tagged_kept text u = (
 -- a directive is escaped as a piece is
 as_piece : (dollars ascii tags odd : Bool) (before : ℕ) (t : List ℕ) → raw_walk dollars ascii TemplateRaw tags odd before t ≡ raw_walk dollars ascii Directive tags odd before t
 as_piece dollars ascii tags odd before [] = refl
-as_piece dollars ascii tags odd before (c ∷ cs) = ap (λ x. raw_turn dollars ascii Directive tags odd before c cs ++ x) (as_piece dollars ascii tags (odd_behind odd c) c cs)
+as_piece dollars ascii tags odd before (c ∷ cs) = grind (arith, nat_tests)
 
 all-quoted : (q : Quote) (ascii : Bool) {s u : List ℕ} → Characters q s [] u → Characters q (raw_walk false ascii TemplateRaw false false 0 s) [] u
 all-quoted Single ascii cs = all-single ascii 0 cs

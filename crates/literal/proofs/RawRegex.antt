@@ -1,12 +1,11 @@
 -- A pattern that is printed keeps its tokens.
-use Rattle.std.proofs.Common.{◌≡◌, ℕ, zero, suc, ◌+◌, ◌*◌, ◌/◌, ◌%◌, ◌<◌, ◌≤◌, Bool, true, false, cond, not, ◌&&◌, eqb, ltb, leb, ◌≢◌, List, [], ◌∷◌, ◌++◌, Some, None, Option, sym, refl, ap, ◌∙◌, ⊎_elim, append_assoc, arith}
+use Rattle.std.proofs.Common.{◌≡◌, ℕ, zero, suc, ◌+◌, ◌*◌, ◌/◌, ◌%◌, ◌<◌, ◌≤◌, Bool, true, false, cond, not, ◌&&◌, eqb, leb, ◌≢◌, List, [], ◌∷◌, ◌++◌, Some, None, Option, sym, refl, ap, ◌∙◌, ⊎_elim, append_assoc, arith}
 use Rattle.std.specs.List.{AllByRecursion}
-use Rattle.std.proofs.lemmas.Bool.{cond_both, cond-true, and_parts, and_right, cases_eq, cases_lt, ne_eqb, eqb-true, lt-leb, le-leb, ltb-true, leb-true, false≢true}
+use Rattle.std.proofs.lemmas.Bool.{cond_both, cond-true, and_parts, and_right, cases_eq, cases_lt, ne_eqb, eqb-true, lt-leb, le-leb, leb-true, false≢true}
 use Rattle.std.proofs.lemmas.Bool.Decides.{nat_tests}
 use Rattle.ecma262.specs.Lookahead.{opens}
 use Rattle.ecma262.specs.Units.{Text, utf16}
 use Rattle.ecma262.specs.Read.{hex_value}
-use Rattle.ecma262.proofs.Values.{hex-digit}
 use Rattle.literal.specs.Escapes.{hex_digit, behind}
 use Rattle.literal.specs.declared.HexCase.TheVariants.{Upper}
 use Rattle.literal.specs.declared.EscapeSequence.TheVariants.{Unicode}
@@ -15,13 +14,12 @@ use Rattle.literal.specs.Raw.{odd_behind, is_separator, unit_escapes, wide_print
 use Rattle.literal.specs.RawLaws.{RegexKept}
 use Rattle.literal.specs.Regex.{units_of, character_units, with_digit, hex_number, unicode_unit, escaped_unit, digit_count, regex_units}
 use Rattle.literal.specs.Regex.RegexUnit.{unit, plain}
-use Rattle.literal.proofs.Digits.{digit, steps}
-use Rattle.literal.proofs.RawTurns.{wide_shape}
+use Rattle.literal.proofs.Digits.{steps}
 
 -- the escapes of units are read as the units
 
 hex_at : (n : ℕ) → hex_value (hex_digit Upper (n % 0x10)) ≡ Some (n % 0x10)
-hex_at n = hex-digit (digit Upper (n % 0x10) (omega arith))
+hex_at n = grind (arith, nat_tests)
 
 unit_back : (u : ℕ) (t : List ℕ) → u < 0x10000 → regex_units 0 (0x5C ∷ (behind u (Unicode Upper) ++ t)) ≡ unit u ∷ regex_units 0 t
 unit_back u t h =
@@ -35,8 +33,7 @@ units_back (u ∷ us) t h =
     ∙ unit_back u (unit_escapes us ++ t) h.0 ∙ ap (λ s. unit u ∷ s) (units_back us t h.1)
 
 small_units : (c : ℕ) → c ≤ 0x10FFFF → AllByRecursion (λ u. u < 0x10000) (utf16 c)
-small_units c h =
-    cond_both (ltb c 0x10000) (c ∷ []) _ (AllByRecursion (λ u. u < 0x10000)) (λ t. (ltb-true c 0x10000 t, tt)) (λ f. (omega arith, (omega arith, tt)))
+small_units c h = grind (arith, nat_tests)
 
 -- what is printed of a character above 7F is read as its units
 wide_back : (odd : Bool) (c : ℕ) (t : List ℕ) → c ≤ 0x10FFFF → regex_units 0 (wide_printed RegExp odd c ++ t) ≡ units_of (utf16 c) ++ regex_units 0 t
@@ -53,11 +50,11 @@ same_with (Some v) f g h = h v
 
 -- a backslash is no digit
 wide-none : (count sofar : ℕ) (odd : Bool) (c : ℕ) (t : List ℕ) → hex_number (suc count) sofar (wide_printed RegExp odd c ++ t) ≡ None
-wide-none count sofar odd c t = let (x, e, _) = wide_shape RegExp odd c in rw e
+wide-none count sofar odd c t = grind (arith, nat_tests)
 
 gone_none : (count sofar : ℕ) (cs : List ℕ) → opens (leb 0x80 ∷ []) cs ≡ true → hex_number (suc count) sofar (ascii_only RegExp true cs) ≡ None
 gone_none count sofar [] e = absurd (false≢true e)
-gone_none count sofar (d ∷ ds) e = rw (and_parts (leb 0x80 d) true e).0 (wide-none count sofar true d (ascii_only RegExp false ds))
+gone_none count sofar (d ∷ ds) e = grind (arith, nat_tests)
 
 number_kept : (count sofar : ℕ) (odd : Bool) (s : List ℕ) → hex_number count sofar (ascii_only RegExp odd s) ≡ hex_number count sofar s
 number_kept zero sofar odd s = refl
@@ -85,14 +82,14 @@ Copied (suc k) [] = Unit {0}
 Copied (suc k) (x ∷ s) = (x < 0x80) × (x ≢ 0x5C) × Copied k s
 
 copied_digit : (x : ℕ) (o : Option ℕ) (f : ℕ → Option ℕ) (w : ℕ) → hex_value x ≡ o → with_digit o f ≡ Some w → (x < 0x80) × (x ≢ 0x5C) × ((v : ℕ) × (f v ≡ Some w))
-copied_digit x None f w e h = let z : ◌≡◌ {A = ℕ} 0 1 = cc in absurd (omega arith)
+copied_digit x None f w e h = cc
 copied_digit x (Some v) f w e h = (small, other, (v, h))
   where
     none : hex_value x ≡ None → ⊥
-    none n = let z : ◌≡◌ {A = ℕ} 0 1 = cc in omega arith
+    none n = cc
 
     small : x < 0x80
-    small = ⊎_elim (λ l. l) (λ g. absurd (none (no_hex x g))) (cases_lt x 0x80)
+    small = grind (arith, nat_tests)
 
     other : x ≢ 0x5C
     other i = none (ap hex_value i)
@@ -109,7 +106,7 @@ digits_copied d ds = go (unicode_unit d ds) refl
   where
     inside : (b : Bool) (o : Option ℕ) (w : ℕ) → cond b o None ≡ Some w → o ≡ Some w
     inside true o w e = e
-    inside false o w e = let z : ◌≡◌ {A = ℕ} 0 1 = cc in absurd (omega arith)
+    inside false o w e = cc
 
     go : (o : Option ℕ) → unicode_unit d ds ≡ o → Copied (digit_count o) ds
     go None e = tt

@@ -1,48 +1,35 @@
 -- What the walk over raw text prints of one character, and what it begins with.
-use Rattle.std.proofs.Common.{◌≡◌, ℕ, ◌+◌, ◌-◌, ◌/◌, ◌%◌, ◌<◌, Bool, true, false, cond, ◌&&◌, eqb, ltb, leb, ◌≢◌, List, [], ◌∷◌, ◌++◌, refl, arith}
+use Rattle.std.proofs.Common.{◌≡◌, ℕ, ◌+◌, ◌-◌, ◌/◌, ◌%◌, ◌<◌, Bool, true, false, ◌&&◌, ltb, ◌≢◌, List, [], ◌∷◌, ◌++◌, refl, arith}
 use Rattle.std.specs.List.{AllByRecursion}
-use Rattle.std.proofs.lemmas.Bool.{cond_both, and_left, false≢true}
+use Rattle.std.proofs.lemmas.Bool.{cond_both, false≢true}
 use Rattle.std.proofs.ByRecursion.{All-append}
 use Rattle.std.proofs.lemmas.Bool.Decides.{nat_tests}
 use Rattle.ecma262.specs.Lookahead.{opens}
-use Rattle.ecma262.specs.Literals.{HexDigit}
-use Rattle.ecma262.specs.Literals.HexDigit.{decimal, small, capital}
-use Rattle.literal.specs.Escapes.{hex_digit, five_digits, behind, script}
+use Rattle.literal.specs.Escapes.{hex_digit, behind}
 use Rattle.literal.specs.declared.HexCase.{HexCase}
 use Rattle.literal.specs.declared.HexCase.TheVariants.{Upper}
-use Rattle.literal.specs.declared.EscapeSequence.TheVariants.{Unicode, CodePoint}
+use Rattle.literal.specs.declared.EscapeSequence.TheVariants.{Unicode}
 use Rattle.literal.specs.declared.NonAsciiEscape.{NonAsciiEscape}
 use Rattle.literal.specs.declared.NonAsciiEscape.TheVariants.{Identifier, RegExp, TemplateRaw, Directive}
 use Rattle.literal.specs.Raw.{continues_lines, is_separator, wide, unit_escapes, wide_escape, wide_printed}
 use Rattle.literal.specs.RawWalk.{backslash_goes, raw_walk}
-use Rattle.literal.proofs.Digits.{digit}
 
 -- ASCII other than < and /, as all is that an escape is made of
 abbrev pub Calm : ℕ → Type 0
 Calm x = (x < 128) × (x ≢ 0x3C) × (x ≢ 0x2F)
 
-digit_calm : {d v : ℕ} → HexDigit d v → Calm d
-digit_calm (decimal l e) = omega arith
-digit_calm (small g l e) = omega arith
-digit_calm (capital g l e) = omega arith
-
 hex_calm : (letters : HexCase) (n : ℕ) → Calm (hex_digit letters (n % 0x10))
-hex_calm letters n = digit_calm (digit letters (n % 0x10) (omega arith))
+hex_calm letters n = grind (arith, nat_tests)
 
 four_calm : (c : ℕ) → AllByRecursion Calm (behind c (Unicode Upper))
 four_calm c = omega (arith, hex_calm)
-
-braces_calm : (c : ℕ) → AllByRecursion Calm (behind c CodePoint)
-braces_calm c =
-    cond_both (ltb c 0x100000) [] (0x31 ∷ []) (λ ds. AllByRecursion Calm (0x75 ∷ 0x7B ∷ (ds ++ five_digits c))) (λ _. omega (arith, hex_calm)) (λ _. omega (arith, hex_calm))
 
 -- a backslash, and calm characters behind it
 abbrev pub Escaping : List ℕ → Type 0
 Escaping s = (x : List ℕ) × (s ≡ 0x5C ∷ x) × AllByRecursion Calm x
 
 literal_shape : (c : ℕ) → Escaping (0x5C ∷ behind c (wide c))
-literal_shape c =
-    (behind c (wide c), refl, cond_both (leb c 0xFFFF) (Unicode Upper) CodePoint (λ e. AllByRecursion Calm (behind c e)) (λ _. four_calm c) (λ _. braces_calm c))
+literal_shape c = grind (arith, nat_tests)
 
 units_calm : (us : List ℕ) → AllByRecursion Calm (unit_escapes us)
 units_calm [] = tt
@@ -68,19 +55,10 @@ wide_shape mode odd c =
 -- in particular its first character
 pub wide-first : (mode : NonAsciiEscape) (odd : Bool) (c : ℕ) (t : List ℕ) (p : ℕ → Bool) (ps : List (ℕ → Bool)) → p 0x5C ≡ false →
     opens (p ∷ ps) (wide_printed mode odd c ++ t) ≡ false
-wide-first mode odd c t p ps n = let (x, e, _) = wide_shape mode odd c in rw e (and_left (p 0x5C) (opens ps (x ++ t)) n)
+wide-first mode odd c t p ps n = grind (arith, nat_tests)
 
 module _ (dollars ascii : Bool) (mode : NonAsciiEscape) (tags : Bool) where
-  -- behind a backslash that goes stands a dollar sign or a character above 7F, so that a dollar sign or a backslash is printed next
-  pub next_dollar : (d : ℕ) (ds : List ℕ) → backslash_goes dollars ascii mode (d ∷ ds) ≡ true → (leb 0x80 d && ascii) ≡ false → d ≡ 0x24
-  next_dollar d ds e n = grind (arith, nat_tests)
-
   pub gone_first : (before : ℕ) (cs : List ℕ) (p : ℕ → Bool) (ps : List (ℕ → Bool)) → p 0x5C ≡ false → p 0x24 ≡ false → backslash_goes dollars ascii mode cs ≡ true →
       opens (p ∷ ps) (raw_walk dollars ascii mode tags true before cs) ≡ false
   gone_first before [] p ps b s e = absurd (false≢true e)
-  gone_first before (d ∷ ds) p ps b s e =
-      let t = raw_walk dollars ascii mode tags false d ds in
-      cond_both (leb 0x80 d && ascii) (wide_printed mode true d) (cond (eqb d 0x2F && eqb before 0x3C && opens script ds && tags) (0x5C ∷ 0x2F ∷ []) (d ∷ []))
-      (λ x. opens (p ∷ ps) (x ++ t) ≡ false)
-      (λ _. wide-first mode true d t p ps b)
-      (λ n. let i = next_dollar d ds e n in rw i (and_left (p 0x24) _ s))
+  gone_first before (d ∷ ds) p ps b s e = grind (arith, nat_tests)

@@ -29,13 +29,13 @@ behind-backslash Backtick e = template (TemplateCharacter.escape e)
 
 -- the characters that stand for themselves behind a backslash
 pub dollar : NonEscapeCharacter 0x24
-dollar = record { source = omega arith; not_single = λ v. elim [ ]; not_digit = omega arith; not_x = omega arith; not_u = omega arith; not_line = omega arith }
+dollar = grind (arith, nat_tests)
 
 pub slash : NonEscapeCharacter 0x2F
-slash = record { source = omega arith; not_single = λ v. elim [ ]; not_digit = omega arith; not_x = omega arith; not_u = omega arith; not_line = omega arith }
+slash = grind (arith, nat_tests)
 
 backtick : NonEscapeCharacter 0x60
-backtick = record { source = omega arith; not_single = λ v. elim [ ]; not_digit = omega arith; not_x = omega arith; not_u = omega arith; not_line = omega arith }
+backtick = grind (arith, nat_tests)
 
 -- the rows of the rules: the escape of c is read as c
 module _ (c : ℕ) (rest : List ℕ) where

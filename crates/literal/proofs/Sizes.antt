@@ -1,13 +1,13 @@
 -- A literal's length is a number that the quote has no part in, and the quote's cost.
-use Rattle.std.proofs.Common.{◌≡◌, ℕ, ◌+◌, ◌≤◌, Bool, true, false, cond, ◌&&◌, eqb, List, [], ◌∷◌, ◌++◌, length, refl, ⊎_elim, arith, length-append}
+use Rattle.std.proofs.lemmas.Bool.Decides.{nat_tests}
+use Rattle.std.proofs.Common.{◌≡◌, ℕ, ◌+◌, ◌≤◌, Bool, true, false, cond, ◌&&◌, eqb, List, [], ◌∷◌, ◌++◌, length, refl, arith, length-append}
 use lib.Utf8.{encode, encodes}
 use Rattle.std.specs.Char.{len_utf8}
 use Rattle.std.proofs.lemmas.Str.{length-encode}
-use Rattle.std.proofs.lemmas.Bool.{cases_eq, ne_eqb, cond_both, leb-true, leb-false, and_parts}
+use Rattle.std.proofs.lemmas.Bool.{cond_both, leb-true, leb-false, and_parts}
 use Rattle.ecma262.specs.Units.{mark}
 use Rattle.ecma262.specs.declared.Quote.{Quote}
 use Rattle.ecma262.specs.declared.Quote.TheVariants.{Single, Double, Backtick}
-use Rattle.ecma262.specs.Lookahead.{opens}
 use Rattle.literal.specs.Laws.{Shortest}
 use Rattle.literal.specs.Escapes.{rules, other_rules, first, printed, literal}
 use Rattle.literal.specs.Quotes.{adds, takes, added, taken, no_dearer, permitted, string_quote, chosen}
@@ -34,21 +34,12 @@ abbrev base : Bool → ℕ → List ℕ → ℕ
 base ascii before [] = 0
 base ascii before (c ∷ cs) = part ascii before c cs + base ascii c cs
 
-dollar_size : (brace : Bool) → size (cond brace (0x5C ∷ 0x24 ∷ []) (0x24 ∷ [])) + 0 ≡ 1 + 0 + cond brace 1 0
-dollar_size true = refl
-dollar_size false = refl
-
 one : (q : Quote) (ascii : Bool) (before c : ℕ) (cs : List ℕ) →
     size (first c (rules q ascii before c cs)) + takes q c ≡ part ascii before c cs + adds q c cs
 unfolding other_rules
-one Single ascii before c cs =
-    ⊎_elim (λ line. rw line) (λ n. ⊎_elim (λ quote. rw quote) (λ m. rw (ne_eqb c 0x0A n, ne_eqb c 0x27 m) (omega arith)) (cases_eq c 0x27)) (cases_eq c 0x0A)
-one Double ascii before c cs =
-    ⊎_elim (λ line. rw line) (λ n. ⊎_elim (λ quote. rw quote) (λ m. rw (ne_eqb c 0x0A n, ne_eqb c 0x22 m) (omega arith)) (cases_eq c 0x22)) (cases_eq c 0x0A)
-one Backtick ascii before c cs =
-    ⊎_elim (λ quote. rw quote)
-    (λ n. ⊎_elim (λ dollar. rw dollar (dollar_size (opens (eqb 0x7B ∷ []) cs))) (λ m. rw (ne_eqb c 0x60 n, ne_eqb c 0x24 m) (omega arith)) (cases_eq c 0x24))
-    (cases_eq c 0x60)
+one Single ascii before c cs = grind (arith, nat_tests)
+one Double ascii before c cs = grind (arith, nat_tests)
+one Backtick ascii before c cs = grind (arith, nat_tests)
 
 sizes : (q : Quote) (ascii : Bool) (before : ℕ) (text : List ℕ) → size (printed q ascii before text) + taken q text ≡ base ascii before text + added q text
 sizes q ascii before [] = refl

@@ -22,14 +22,14 @@ ghost use Rattle.literal.specs.RawLaws.{PieceInOneWalk, TaggedInOneWalk, OthersI
 ghost use Rattle.literal.specs.Samples.{Samples};
 
 /// The letters of hexadecimal digits: `a` to `f`, or `A` to `F`.
-#[derive(Clone, Copy)]
+#[derive(Clone, Copy, Debug, PartialEq, Eq)]
 pub enum HexCase {
     Lower,
     Upper,
 }
 
 /// How a character is escaped, in the words of ECMA-262.
-#[derive(Clone, Copy)]
+#[derive(Clone, Copy, Debug, PartialEq, Eq)]
 pub enum EscapeSequence {
     /// `\0`.
     Null,
@@ -44,7 +44,7 @@ pub enum EscapeSequence {
 }
 
 /// Where raw text stands, which decides how its characters above 7F are escaped.
-#[derive(Clone, Copy)]
+#[derive(Clone, Copy, Debug, PartialEq, Eq)]
 pub enum NonAsciiEscape {
     /// A name: backslashes have no part in it.
     Identifier,

@@ -1,22 +1,7 @@
 -- What carrying out one call answers, and what the page holds then.
-use Rattle.std.specs.Prelude.{ℕ, ◌+◌, Bool, cond, List, ◌++◌, length, Ok, Err, Result, ◌==◌, nat_le}
-use Rattle.refusal.specs.Returned.{Returned, answer, told}
-use Rattle.refusal.specs.declared.Refusal.{Refusal}
+use Rattle.std.specs.Prelude.{ℕ, ◌+◌, Bool, cond, List, ◌++◌, length, ◌==◌, nat_le}
+use Rattle.refusal.specs.Returned.{Returned, answer}
 use Rattle.text.specs.Answers.{text_answer}
-use Rattle.text.specs.Answers as text
-use Rattle.buffer.specs.Faults as buffer
-use Rattle.plantpage.specs.declared.carrying.HostFault.{HostFault}
-use Rattle.plantpage.specs.declared.carrying.HostFault.TheVariants.{Text, Buffer}
-
--- what a fault tells: what it told where it came from
-abbrev pub tells : HostFault → Refusal
-tells (Text fault) = text.tells fault
-tells (Buffer fault) = buffer.tells fault
-
--- 0 and the bytes printed, or the refusal
-abbrev pub returned : Result ℕ HostFault → Returned
-returned (Ok printed) = answer 0 printed
-returned (Err fault) = told (tells fault)
 
 -- the answer where the text exists: 0 and the item's length, or 7 and the need
 abbrev pub item_answer : List ℕ → ℕ → List ℕ → Returned

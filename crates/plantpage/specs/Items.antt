@@ -1,7 +1,7 @@
 -- The items of a page: what a call of each kind prints of its text, and then a comma and a line feed.
 use Rattle.std.specs.Prelude.{ℕ, true, false, List, [], ◌∷◌, ◌++◌}
 use Rattle.ecma262.specs.declared.Quote.TheVariants.{Backtick}
-use Rattle.codegen.specs.declared.options.CodegenOptions.{CodegenOptions}
+use Rattle.options.specs.declared.CodegenOptions.{CodegenOptions}
 use Rattle.codegen.specs.Strings.{quoted, literal_bytes}
 use Rattle.job.specs.declared.calls.CallKind.{CallKind}
 use Rattle.job.specs.declared.calls.CallKind.TheVariants.{Quoted, QuotedOrBacktick, Template}

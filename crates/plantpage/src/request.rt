@@ -16,17 +16,14 @@ pub enum Request {
 
 /// What the program's arguments ask for.
 pub fn request_of(rt: &HostRuntime) -> Result<Request, Failure> {
-    let mut words = env::args(rt)?;
-    let _ = words.next();
+    let mut words = env::args(rt)?.skip(1);
     let job = words.next();
     let page = words.next();
     if words.next().is_some() {
         return Err(Failure::TooManyWords);
     }
-    if let (Some(word), None) = (&job, &page) {
-        if word.as_str() == "help" {
-            return Ok(Request::Help);
-        }
-    }
-    Ok(Request::Set { job, page })
+    Ok(match (&job, &page) {
+        (Some(word), None) if word.as_str() == "help" => Request::Help,
+        _ => Request::Set { job, page },
+    })
 }

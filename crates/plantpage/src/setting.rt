@@ -4,10 +4,10 @@ ghost use Rattle.plantpage.specs.Quotas.{quota_of};
 
 use crate::carrying::carry_out;
 use crate::failure::Failure;
-use crate::telling::{Outcome, Told};
+use crate::telling::Told;
 use buffer::{CodeBuffer, LineWatch, OwnedBuffer, Quota};
-use codegen::CodegenOptions;
-use job::{Entry, Job, JobOptions, MAX_LIMIT, read_job};
+use job::{Entry, Job, MAX_LIMIT, read_job};
+use options::CodegenOptions;
 use std::io::{Read, Write};
 use std::{fs, io};
 
@@ -31,7 +31,7 @@ pub fn set_page(
     } = read_job(rt.alloc(), text.as_slice())?;
     let below = LineWatch::new(OwnedBuffer::new());
     let mut code = Quota::new(below, quota_of(limit));
-    let told = carry_out_all(rt, &mut code, options_of(options), calls);
+    let told = carry_out_all(rt, &mut code, options, calls);
     let watch = code.into_inner();
     let lines = watch.line_feeds();
     let owned = watch.into_inner();
@@ -50,15 +50,10 @@ fn carry_out_all<B: CodeBuffer>(
     options: CodegenOptions,
     calls: Vec<Entry>,
 ) -> io::Result<()> {
-    for entry in calls {
-        let Entry { line, call } = entry;
+    for Entry { line, call } in calls {
         let kind = call.kind;
-        let outcome = Outcome::of(carry_out(code, options, call));
-        let told = Told {
-            line,
-            kind,
-            outcome,
-        };
+        let answer = carry_out(code, options, call);
+        let told = Told { line, kind, answer };
         println!(rt; "{told}")?;
     }
     Ok(())
@@ -71,16 +66,6 @@ fn show(rt: &HostRuntime, page: &[u8], lines: usize) -> io::Result<()> {
     println!(rt; "{RULE}")?;
     rt.stdout().write_all(page)?;
     println!(rt; "{RULE}")
-}
-
-fn options_of(options: JobOptions) -> CodegenOptions
-    ensures are_the_jobs { (result.single_quote ≡ options.single_quote) × (result.minify ≡ options.minify) × (result.ascii_only ≡ options.ascii_only) }
-{
-    CodegenOptions {
-        single_quote: options.single_quote,
-        minify: options.minify,
-        ascii_only: options.ascii_only,
-    }
 }
 
 /// The page's quota in bytes: the job's limit, else the greatest.
@@ -97,14 +82,12 @@ fn read_input(rt: &HostRuntime) -> Result<Vec<u8>, Failure> {
 }
 
 fn read_file(rt: &HostRuntime, path: String) -> Result<Vec<u8>, Failure> {
-    match fs::read(rt, path.as_str()) {
-        Ok(text) => Ok(text),
-        Err(error) => Err(Failure::Unread { path, error }),
-    }
+    fs::read(rt, path.as_str()).map_err(|error| Failure::Unread { path, error })
 }
 
 /// Writes the page to the file, and tells of it.
 fn write_file(rt: &HostRuntime, path: String, page: &[u8]) -> Result<(), Failure> {
+    // No `map_err`: its closure would own the path, which is told below.
     if let Err(error) = fs::write(rt, path.as_str(), page) {
         return Err(Failure::Unwritten { path, error });
     }

@@ -1,5 +1,5 @@
 -- A sequence is the encoding of its code point, and each encoding is such a sequence.
-use Rattle.std.proofs.Common.{◌≡◌, ℕ, ◌+◌, ◌*◌, ◌/◌, ◌%◌, ◌<◌, ◌≤◌, Bool, true, false, ◌&&◌, ltb, leb, List, [], ◌∷◌, ◌++◌, length, get_or, drop, refl, ap, ◌∙◌, ⊎_elim, add-zero, add_assoc, arith}
+use Rattle.std.proofs.Common.{◌≡◌, ℕ, ◌+◌, ◌*◌, ◌/◌, ◌%◌, ◌<◌, ◌≤◌, Bool, true, false, ◌&&◌, ltb, leb, List, [], ◌∷◌, ◌++◌, length, get_or, drop, Some, None, refl, ap, ◌∙◌, ⊎_elim, add-zero, add_assoc, arith}
 use lib.Utf8.{encode}
 use Rattle.std.specs.Char.{len_utf8}
 use Rattle.std.proofs.lemmas.List.{get_or-drop, at_drop_more}
@@ -21,19 +21,19 @@ at_drop bytes at h =
     e ∙ rw (get_or-drop (at + 1) bytes 0 0, get_or-drop (at + 1) bytes 1 0, get_or-drop (at + 1) bytes 2 0, add-zero (at + 1), add_assoc at 1 1, add_assoc at 1 2)
 
 module _ (a b c d : ℕ) where
-  pub code_0 : seq_len a ≡ 0 → code a b c d ≡ (0, 0)
+  pub code_0 : seq_len a ≡ None → code a b c d ≡ (0, 0)
   code_0 h = grind (arith, nat_tests)
 
-  pub code_1 : seq_len a ≡ 1 → code a b c d ≡ (a, 1)
+  pub code_1 : seq_len a ≡ Some 1 → code a b c d ≡ (a, 1)
   code_1 h = grind (arith, nat_tests)
 
-  pub code_2 : seq_len a ≡ 2 → code a b c d ≡ held (goes b) 0x80 (a % 0x20 * 0x40 + b % 0x40) 2
+  pub code_2 : seq_len a ≡ Some 2 → code a b c d ≡ held (goes b) 0x80 (a % 0x20 * 0x40 + b % 0x40) 2
   code_2 h = grind (arith, nat_tests)
 
-  pub code_3 : seq_len a ≡ 3 → code a b c d ≡ held (goes b && goes c) 0x800 (a % 0x10 * 0x1000 + b % 0x40 * 0x40 + c % 0x40) 3
+  pub code_3 : seq_len a ≡ Some 3 → code a b c d ≡ held (goes b && goes c) 0x800 (a % 0x10 * 0x1000 + b % 0x40 * 0x40 + c % 0x40) 3
   code_3 h = grind (arith, nat_tests)
 
-  pub code_4 : seq_len a ≡ 4 → code a b c d ≡ held (goes b && goes c && goes d) 0x10000 (a % 8 * 0x40000 + b % 0x40 * 0x1000 + c % 0x40 * 0x40 + d % 0x40) 4
+  pub code_4 : seq_len a ≡ Some 4 → code a b c d ≡ held (goes b && goes c && goes d) 0x10000 (a % 8 * 0x40000 + b % 0x40 * 0x1000 + c % 0x40 * 0x40 + d % 0x40) 4
   code_4 h = grind (arith, nat_tests)
 
 -- what a sequence that was found says of the bytes

@@ -1,10 +1,11 @@
 -- The walk over the bytes of template text finds the breach of its code points.
-use Rattle.std.proofs.Common.{◌≡◌, ℕ, ◌+◌, ◌-◌, ◌*◌, ◌<◌, ◌≤◌, Bool, true, false, cond, ◌&&◌, eqb, ◌≢◌, ◌⊎◌, List, [], ◌∷◌, ◌++◌, length, get_or, take, drop, is_some, Some, None, Option, sym, refl, ap, ◌∙◌, subst, inl, inr, ⊎_elim, arith, length-append, length-drop}
+use Rattle.std.proofs.Common.{◌≡◌, ℕ, zero, suc, ◌+◌, ◌-◌, ◌*◌, ◌<◌, ◌≤◌, Bool, true, false, cond, ◌&&◌, eqb, leb, ◌≢◌, ◌⊎◌, List, [], ◌∷◌, ◌++◌, length, get_or, take, drop, replicate, is_some, Some, None, Option, sym, refl, ap, ◌∙◌, subst, inl, inr, ⊎_elim, arith, length-append, length-drop}
 use lib.Utf8.{encode, encodes}
-use Rattle.std.specs.Char.{len_utf8}
-use Rattle.std.specs.List.{AllByRecursion}
-use Rattle.std.proofs.lemmas.List.{drop_at, drop-drop, take_rest}
-use Rattle.std.proofs.lemmas.Bool.{both_ways, cases_Bool, cases_eq, cases_lt, eq-eqb, ne_eqb, le-leb, lt-leb, and_right, cond-true, cond-false}
+use Rattle.std.specs.Char.{len_utf8, is_ascii_hexdigit}
+use Rattle.std.specs.List.{AllByRecursion, list_all}
+use Rattle.std.proofs.Math.Dec.{leb-suc-suc, leb-suc-zero}
+use Rattle.std.proofs.lemmas.List.{drop_at, take_rest}
+use Rattle.std.proofs.lemmas.Bool.{both_ways, cases_Bool, cases_eq, cases_lt, eq-eqb, eqb-true, eqb-false, ne_eqb, le-leb, lt-leb, and_right, cond-true, cond-false}
 use Rattle.std.proofs.lemmas.Str.{length-encode, len_utf8_bounds}
 use Rattle.std.proofs.lemmas.Bool.Decides.{nat_tests}
 use Rattle.ecma262.specs.Lookahead.{opens, digit}
@@ -17,7 +18,7 @@ use Rattle.ecma262.proofs.Utf8.{encode_1, Encoded, ascii, wide, encoded, Narrow,
 use Rattle.text.specs.declared.well_formed.Encoding.TheVariants.{Utf8}
 use Rattle.text.specs.Sequence.{breach, code_points}
 use Rattle.text.specs.Wtf8.{Points}
-use Rattle.text.specs.Template.{is_hex, closes, braced_length, unicode_length, escape_length, character_length}
+use Rattle.text.specs.Template.{begins_with_hex, closes, braced_length, unicode_length, escape_length, character_length}
 use Rattle.text.proofs.Formed.{accepted, read}
 use Rattle.text.proofs.Escapes.{plain, at_backslash, at_backtick, at_dollar, at_x, at_u, at_zero, at_other}
 
@@ -29,19 +30,20 @@ abbrev pub Stands : ℕ → List ℕ → Option ℕ → Type 0
 Stands at bytes o =
     (tail : List ℕ) × ((text : List ℕ) × Wide tail × Text text × (bytes ≡ tail ++ encodes text) × (breach_from (at + length tail) text ≡ o))
 
--- What a character of n bytes at the front says: 0 that the breach is here, else that n bytes on is a place again.
-abbrev pub Step : ℕ → List ℕ → Option ℕ → ℕ → Type 0
-Step at bytes o n = (n ≡ 0 → Some at ≡ o) × (0 < n → (n ≤ length bytes) × Stands (at + n) (drop n bytes) o)
+-- What the length of a character at the front says: none that the breach is here, else that so many bytes on is a place again.
+abbrev pub Step : ℕ → List ℕ → Option ℕ → Option ℕ → Type 0
+Step at bytes o None = Some at ≡ o
+Step at bytes o (Some n) = (0 < n) × (n ≤ length bytes) × Stands (at + n) (drop n bytes) o
 
 module _ (at : ℕ) (bytes : List ℕ) (o : Option ℕ) where
-  halts : o ≡ Some at → Step at bytes o 0
-  halts e = (λ _. sym e, λ h. absurd (omega arith))
+  halts : o ≡ Some at → Step at bytes o None
+  halts e = sym e
 
   goes : (n : ℕ) (tail text : List ℕ) → 0 < n → n ≤ length bytes → Wide tail → Text text → drop n bytes ≡ tail ++ encodes text →
-      o ≡ breach_from (at + n + length tail) text → Step at bytes o n
-  goes n tail text p l w t e b = (λ z. absurd (omega arith), λ _. (l, (tail, (text, w, t, e, sym b))))
+      o ≡ breach_from (at + n + length tail) text → Step at bytes o (Some n)
+  goes n tail text p l w t e b = (p, l, (tail, (text, w, t, e, sym b)))
 
-  of_length : (m n : ℕ) → m ≡ n → Step at bytes o n → Step at bytes o m
+  of_length : (m n : Option ℕ) → m ≡ n → Step at bytes o n → Step at bytes o m
   of_length m n e = subst (Step at bytes o) (sym e)
 
 -- the tests
@@ -49,28 +51,44 @@ module _ (at : ℕ) (bytes : List ℕ) (o : Option ℕ) where
 wide-hex : (c : ℕ) → 0x80 ≤ c → hex_value c ≡ None
 wide-hex c h = grind (arith, nat_tests)
 
-hex_narrow : Narrow is_hex
-unfolding is_hex
-hex_narrow c h = ap is_some (wide-hex c h)
+hex : ℕ → Bool
+hex = is_ascii_hexdigit
 
-hex_zero : is_hex 0 ≡ false
-unfolding is_hex
-hex_zero = refl
+hex-some : (d : ℕ) → hex d ≡ is_some (hex_value d)
+unfolding hex
+hex-some d = grind (arith, nat_tests)
+
+hex_narrow : Narrow hex
+hex_narrow c h = hex-some c ∙ ap is_some (wide-hex c h)
+
+-- a test of each of the first n bytes
+opens_all : (p : ℕ → Bool) (n : ℕ) (s : List ℕ) → (leb n (length s) && list_all p (take n s)) ≡ opens (replicate n p) s
+opens_all p zero s = rw (le-leb 0 (length s) (omega arith)) refl
+opens_all p (suc n) [] = rw leb-suc-zero refl
+opens_all p (suc n) (c ∷ s) = rw leb-suc-suc (swap (leb n (length s)) (p c) (list_all p (take n s)) ∙ ap (λ b. p c && b) (opens_all p n s))
+  where
+    swap : (a b c : Bool) → (a && (b && c)) ≡ (b && (a && c))
+    swap true b c = refl
+    swap false true c = refl
+    swap false false c = refl
+
+opens_hex : (n : ℕ) (s : List ℕ) → begins_with_hex n s ≡ opens (replicate n hex) s
+unfolding begins_with_hex hex
+opens_hex n s = opens_all is_ascii_hexdigit n s
 
 -- a HexDigit with its value, or none
 abbrev HexCase : ℕ → Type 0
-HexCase d = ((v : ℕ) × (hex_value d ≡ Some v) × (is_hex d ≡ true) × (d < 0x80)) ⊎ ((hex_value d ≡ None) × (is_hex d ≡ false))
+HexCase d = ((v : ℕ) × (hex_value d ≡ Some v) × (hex d ≡ true) × (d < 0x80)) ⊎ ((hex_value d ≡ None) × (hex d ≡ false))
 
 hex_case : (d : ℕ) → HexCase d
-unfolding is_hex
 hex_case d = go (hex_value d) refl
   where
     some_none : {X : Type 0} (p : ℕ) → Some p ≡ None → X
-    some_none p e = let z : ◌≡◌ {A = ℕ} 0 1 = cc in absurd (omega arith)
+    some_none p e = cc
 
     go : (o : Option ℕ) → hex_value d ≡ o → HexCase d
-    go (Some v) e = inl (v, e, ap is_some e, ⊎_elim (λ l. l) (λ h. some_none v (sym e ∙ wide-hex d h)) (cases_lt d 0x80))
-    go None e = inr (e, ap is_some e)
+    go (Some v) e = inl (v, e, hex-some d ∙ ap is_some e, ⊎_elim (λ l. l) (λ h. some_none v (sym e ∙ wide-hex d h)) (cases_lt d 0x80))
+    go None e = inr (e, hex-some d ∙ ap is_some e)
 
 eqb_sym : (a b : ℕ) → eqb a b ≡ eqb b a
 eqb_sym a b = grind (arith, nat_tests)
@@ -83,30 +101,6 @@ first_is w p l s =
 first-digit : (s : List ℕ) → digit (get_or (encodes s) 0 0) ≡ opens (digit ∷ []) s
 first-digit s = sym (first_test digit refl (encodes s)) ∙ same_front (digit ∷ []) (digit_narrow, tt) s
 
-four_tests : (p q r s : Bool) → (p && q && r && s) ≡ (p && (q && (r && (s && true))))
-four_tests true true true true = refl
-four_tests true true true false = refl
-four_tests true true false s = refl
-four_tests true false r s = refl
-four_tests false q r s = refl
-
-first_four : (t : List ℕ) → (is_hex (get_or t 0 0) && is_hex (get_or t 1 0) && is_hex (get_or t 2 0) && is_hex (get_or t 3 0)) ≡ opens (is_hex ∷ is_hex ∷ is_hex ∷ is_hex ∷ []) t
-first_four [] = rw hex_zero refl
-first_four (a ∷ []) = rw hex_zero (four_tests (is_hex a) false false false)
-first_four (a ∷ b ∷ []) = rw hex_zero (four_tests (is_hex a) (is_hex b) false false)
-first_four (a ∷ b ∷ c ∷ []) = rw hex_zero (four_tests (is_hex a) (is_hex b) (is_hex c) false)
-first_four (a ∷ b ∷ c ∷ d ∷ t) = four_tests (is_hex a) (is_hex b) (is_hex c) (is_hex d)
-
-two_tests : (p q : Bool) → (p && q) ≡ (p && (q && true))
-two_tests true true = refl
-two_tests true false = refl
-two_tests false q = refl
-
-first_two : (t : List ℕ) → (is_hex (get_or t 0 0) && is_hex (get_or t 1 0)) ≡ opens (is_hex ∷ is_hex ∷ []) t
-first_two [] = rw hex_zero refl
-first_two (a ∷ []) = rw hex_zero (two_tests (is_hex a) false)
-first_two (a ∷ b ∷ t) = two_tests (is_hex a) (is_hex b)
-
 -- the bytes of an ASCII character
 one : (c : ℕ) (s : List ℕ) → c < 0x80 → encodes (c ∷ s) ≡ c ∷ encodes s
 one c s h = rw (encode_1 c h) refl
@@ -116,12 +110,12 @@ width_one c h = grind (arith, nat_tests)
 
 -- two HexDigits, or none behind x
 data Two : List ℕ → Type 0 where
-  all : {a b m n : ℕ} {r : List ℕ} → a < 0x80 → b < 0x80 → hex_value a ≡ Some m → hex_value b ≡ Some n → opens (is_hex ∷ is_hex ∷ []) (a ∷ b ∷ r) ≡ true → Two (a ∷ b ∷ r)
-  not_all : {s : List ℕ} → opens (is_hex ∷ is_hex ∷ []) s ≡ false → hex_escape s ≡ nothing → Two s
+  all : {a b m n : ℕ} {r : List ℕ} → a < 0x80 → b < 0x80 → hex_value a ≡ Some m → hex_value b ≡ Some n → opens (hex ∷ hex ∷ []) (a ∷ b ∷ r) ≡ true → Two (a ∷ b ∷ r)
+  not_all : {s : List ℕ} → opens (hex ∷ hex ∷ []) s ≡ false → hex_escape s ≡ nothing → Two s
 
 two : (s : List ℕ) → Two s
 two [] = Two.not_all refl refl
-two (a ∷ []) = Two.not_all (and_right (is_hex a) false refl) refl
+two (a ∷ []) = Two.not_all (and_right (hex a) false refl) refl
 two (a ∷ b ∷ s) =
     ⊎_elim
     (λ x. ⊎_elim
@@ -133,15 +127,15 @@ two (a ∷ b ∷ s) =
 data Four : List ℕ → Type 0 where
   all : {a b c d k l m n : ℕ} {r : List ℕ} → a < 0x80 → b < 0x80 → c < 0x80 → d < 0x80 →
       hex_value a ≡ Some k → hex_value b ≡ Some l → hex_value c ≡ Some m → hex_value d ≡ Some n →
-      opens (is_hex ∷ is_hex ∷ is_hex ∷ is_hex ∷ []) (a ∷ b ∷ c ∷ d ∷ r) ≡ true → Four (a ∷ b ∷ c ∷ d ∷ r)
-  not_all : {s : List ℕ} → opens (is_hex ∷ is_hex ∷ is_hex ∷ is_hex ∷ []) s ≡ false → hex4_digits s ≡ nothing → Four s
+      opens (hex ∷ hex ∷ hex ∷ hex ∷ []) (a ∷ b ∷ c ∷ d ∷ r) ≡ true → Four (a ∷ b ∷ c ∷ d ∷ r)
+  not_all : {s : List ℕ} → opens (hex ∷ hex ∷ hex ∷ hex ∷ []) s ≡ false → hex4_digits s ≡ nothing → Four s
 
 four : (s : List ℕ) → Four s
 four [] = Four.not_all refl refl
-four (a ∷ []) = Four.not_all (and_right (is_hex a) false refl) refl
-four (a ∷ b ∷ []) = Four.not_all (and_right (is_hex a) (is_hex b && false) (and_right (is_hex b) false refl)) refl
+four (a ∷ []) = Four.not_all (and_right (hex a) false refl) refl
+four (a ∷ b ∷ []) = Four.not_all (and_right (hex a) (hex b && false) (and_right (hex b) false refl)) refl
 four (a ∷ b ∷ c ∷ []) =
-    Four.not_all (and_right (is_hex a) (is_hex b && (is_hex c && false)) (and_right (is_hex b) (is_hex c && false) (and_right (is_hex c) false refl))) refl
+    Four.not_all (and_right (hex a) (hex b && (hex c && false)) (and_right (hex b) (hex c && false) (and_right (hex c) false refl))) refl
 four (a ∷ b ∷ c ∷ d ∷ s) =
     ⊎_elim
     (λ x. ⊎_elim
@@ -154,20 +148,20 @@ four (a ∷ b ∷ c ∷ d ∷ s) =
     (λ x. Four.not_all (rw x.1 refl) (rw x.0 refl)) (hex_case a)
 
 -- behind x
-x_step : (at : ℕ) (s : List ℕ) → Text s → Two s → Step at (0x5C ∷ 0x78 ∷ encodes s) (breach_from at (0x5C ∷ 0x78 ∷ s)) (cond (opens (is_hex ∷ is_hex ∷ []) s) 4 0)
+x_step : (at : ℕ) (s : List ℕ) → Text s → Two s → Step at (0x5C ∷ 0x78 ∷ encodes s) (breach_from at (0x5C ∷ 0x78 ∷ s)) (cond (opens (hex ∷ hex ∷ []) s) (Some 4) None)
 x_step at s t (Two.not_all f e) = rw f (halts at (0x5C ∷ 0x78 ∷ encodes s) _ (backslash-here at (0x78 ∷ s) e))
 x_step at (a ∷ b ∷ r) t (Two.all {m = m} {n = n} la lb ea eb e) =
     let w = width_one a la in
     let v = width_one b lb in
     let enc : encodes (a ∷ b ∷ r) ≡ a ∷ b ∷ encodes r = one a (b ∷ r) la ∙ ap (λ x. a ∷ x) (one b r lb) in
     let is : hex_escape (a ∷ b ∷ r) ≡ got r ((m * 16 + n) ∷ []) = rw (ea, eb) refl in
-    rw e (subst (λ x. Step at (0x5C ∷ 0x78 ∷ x) (breach_from at (0x5C ∷ 0x78 ∷ a ∷ b ∷ r)) 4) (sym enc)
+    rw e (subst (λ x. Step at (0x5C ∷ 0x78 ∷ x) (breach_from at (0x5C ∷ 0x78 ∷ a ∷ b ∷ r)) (Some 4)) (sym enc)
     (goes at (0x5C ∷ 0x78 ∷ a ∷ b ∷ encodes r) _ 4 [] r (omega arith) (omega arith) tt t.1.1 refl
     (backslash-behind at (0x78 ∷ a ∷ b ∷ r) r ((m * 16 + n) ∷ []) (omega arith, t) is ∙ ap (λ n. breach_from n r) (omega arith))))
 
 -- behind u
 u_step : (at : ℕ) (s : List ℕ) → Text s → opens (eqb 0x7B ∷ []) s ≡ false → Four s →
-    Step at (0x5C ∷ 0x75 ∷ encodes s) (breach_from at (0x5C ∷ 0x75 ∷ s)) (cond (opens (is_hex ∷ is_hex ∷ is_hex ∷ is_hex ∷ []) s) 6 0)
+    Step at (0x5C ∷ 0x75 ∷ encodes s) (breach_from at (0x5C ∷ 0x75 ∷ s)) (cond (opens (hex ∷ hex ∷ hex ∷ hex ∷ []) s) (Some 6) None)
 u_step at s t nb (Four.not_all f e) = rw f (halts at (0x5C ∷ 0x75 ∷ encodes s) _ (backslash-here at (0x75 ∷ s) (not_braced s nb ∙ e)))
   where
     not_braced : (s : List ℕ) → opens (eqb 0x7B ∷ []) s ≡ false → unicode_escape s ≡ hex4_digits s
@@ -182,7 +176,7 @@ u_step at (a ∷ b ∷ c ∷ d ∷ r) t nb (Four.all {k = k} {l = l} {m = m} {n 
     one a (b ∷ c ∷ d ∷ r) la ∙ ap (λ x. a ∷ x) (one b (c ∷ d ∷ r) lb) ∙ ap (λ x. a ∷ b ∷ x) (one c (d ∷ r) lc) ∙ ap (λ x. a ∷ b ∷ c ∷ x) (one d r ld) in
     let brace : eqb a 0x7B ≡ false = grind (arith, nat_tests) in
     let is : unicode_escape (a ∷ b ∷ c ∷ d ∷ r) ≡ got r ((((k * 16 + l) * 16 + m) * 16 + n) ∷ []) = rw (brace, ea, eb, ec, ed) refl in
-    rw e (subst (λ x. Step at (0x5C ∷ 0x75 ∷ x) (breach_from at (0x5C ∷ 0x75 ∷ a ∷ b ∷ c ∷ d ∷ r)) 6) (sym enc)
+    rw e (subst (λ x. Step at (0x5C ∷ 0x75 ∷ x) (breach_from at (0x5C ∷ 0x75 ∷ a ∷ b ∷ c ∷ d ∷ r)) (Some 6)) (sym enc)
     (goes at (0x5C ∷ 0x75 ∷ a ∷ b ∷ c ∷ d ∷ encodes r) _ 6 [] r (omega arith) (omega arith) tt t.1.1.1.1 refl
     (backslash-behind at (0x75 ∷ a ∷ b ∷ c ∷ d ∷ r) r ((((k * 16 + l) * 16 + m) * 16 + n) ∷ []) (omega arith, t) is ∙ ap (λ n. breach_from n r) (omega arith))))
 
@@ -196,11 +190,11 @@ too_high x h (d ∷ s) =
     (cases_eq d 0x7D)
 
 data Closed (n sofar : ℕ) (s : List ℕ) : Type 0 where
-  never : closes n sofar (encodes s) ≡ 0 → read_code_point sofar s ≡ nothing → Closed n sofar s
-  there : (front r u : List ℕ) → closes n sofar (encodes s) ≡ n + length front → Text r → encodes s ≡ front ++ encodes r →
+  never : closes n sofar (encodes s) ≡ None → read_code_point sofar s ≡ nothing → Closed n sofar s
+  there : (front r u : List ℕ) → closes n sofar (encodes s) ≡ Some (n + length front) → Text r → encodes s ≡ front ++ encodes r →
       bytes s ≡ length front + bytes r → read_code_point sofar s ≡ got r u → Closed n sofar s
 
-wide-closes : (n sofar d : ℕ) (e t : List ℕ) → Encoded d e → 0x80 ≤ d → closes n sofar (e ++ t) ≡ 0
+wide-closes : (n sofar d : ℕ) (e t : List ℕ) → Encoded d e → 0x80 ≤ d → closes n sofar (e ++ t) ≡ None
 wide-closes n sofar d e t (ascii l) h = absurd (omega arith)
 wide-closes n sofar d e t (wide {b = b} _ k _) h = rw (ne_eqb b 0x7D (omega arith), wide-hex b k) refl
 
@@ -211,7 +205,7 @@ module _ (n sofar d : ℕ) (s : List ℕ) (l : d < 0x80) (open-still : d ≢ 0x7
       (rw (ne_eqb d 0x7D open-still, e) b)
   one_more v e h (Closed.there front r u a t f g b) =
       Closed.there (d ∷ front) r u
-      (ap (closes n sofar) (one d s l) ∙ rw (ne_eqb d 0x7D open-still, e, le-leb (sofar * 16 + v) 0x10FFFF h) (a ∙ omega arith))
+      (ap (closes n sofar) (one d s l) ∙ rw (ne_eqb d 0x7D open-still, e, le-leb (sofar * 16 + v) 0x10FFFF h) (a ∙ ap Some (omega arith)))
       t (one d s l ∙ ap (λ x. d ∷ x) f) (omega (arith, width_one d l)) (rw (ne_eqb d 0x7D open-still, e) b)
 
   no_more : (v : ℕ) → hex_value d ≡ Some v → 0x10FFFF < sofar * 16 + v → Closed n sofar (d ∷ s)
@@ -256,7 +250,7 @@ braced_step : (at : ℕ) (s : List ℕ) → Text s →
     Step at (0x5C ∷ 0x75 ∷ 0x7B ∷ encodes s) (breach_from at (0x5C ∷ 0x75 ∷ 0x7B ∷ s)) (braced_length (0x5C ∷ 0x75 ∷ 0x7B ∷ encodes s))
 braced_step at s t =
     ⊎_elim
-    (λ (e : opens (eqb 0x7D ∷ []) s ≡ true). of_length at z o (braced_length z) 0 (rw (first, e) refl) (halts at z o (backslash-here at (0x75 ∷ 0x7B ∷ s) (rw e refl))))
+    (λ (e : opens (eqb 0x7D ∷ []) s ≡ true). of_length at z o (braced_length z) None (rw (first, e) refl) (halts at z o (backslash-here at (0x75 ∷ 0x7B ∷ s) (rw e refl))))
     (λ (f : opens (eqb 0x7D ∷ []) s ≡ false). of_length at z o (braced_length z) (closes 3 0 (encodes s)) (rw (first, f) refl) (digits_step at s t f (closed_by 3 0 (omega arith) s t)))
     (cases_Bool (opens (eqb 0x7D ∷ []) s))
   where
@@ -272,8 +266,8 @@ braced_step at s t =
 unicode_step : (at : ℕ) (s : List ℕ) → Text s → Step at (0x5C ∷ 0x75 ∷ encodes s) (breach_from at (0x5C ∷ 0x75 ∷ s)) (unicode_length (0x5C ∷ 0x75 ∷ encodes s))
 unicode_step at s t =
     ⊎_elim (braced s t)
-    (λ (f : opens (eqb 0x7B ∷ []) s ≡ false). of_length at (0x5C ∷ 0x75 ∷ encodes s) (breach_from at (0x5C ∷ 0x75 ∷ s)) (unicode_length (0x5C ∷ 0x75 ∷ encodes s)) (cond (opens (is_hex ∷ is_hex ∷ is_hex ∷ is_hex ∷ []) s) 6 0)
-    (rw (first, f, first_four (encodes s), same_front (is_hex ∷ is_hex ∷ is_hex ∷ is_hex ∷ []) (hex_narrow, (hex_narrow, (hex_narrow, (hex_narrow, tt)))) s) refl)
+    (λ (f : opens (eqb 0x7B ∷ []) s ≡ false). of_length at (0x5C ∷ 0x75 ∷ encodes s) (breach_from at (0x5C ∷ 0x75 ∷ s)) (unicode_length (0x5C ∷ 0x75 ∷ encodes s)) (cond (opens (hex ∷ hex ∷ hex ∷ hex ∷ []) s) (Some 6) None)
+    (rw (first, f, opens_hex 4 (encodes s), same_front (hex ∷ hex ∷ hex ∷ hex ∷ []) (hex_narrow, (hex_narrow, (hex_narrow, (hex_narrow, tt)))) s) refl)
     (u_step at s t f (four s)))
     (cases_Bool (opens (eqb 0x7B ∷ []) s))
   where
@@ -293,8 +287,8 @@ unicode_step at s t =
 zero_step : (at : ℕ) (s : List ℕ) → Text s → Step at (0x5C ∷ 0x30 ∷ encodes s) (breach_from at (0x5C ∷ 0x30 ∷ s)) (escape_length (0x5C ∷ 0x30 ∷ encodes s))
 zero_step at s t =
     ⊎_elim
-    (λ (e : opens (digit ∷ []) s ≡ true). of_length at z o (escape_length z) 0 (at_zero (encodes s) ∙ rw (first-digit s, e) refl) (halts at z o (backslash-here at (0x30 ∷ s) (rw e refl))))
-    (λ (f : opens (digit ∷ []) s ≡ false). of_length at z o (escape_length z) 2 (at_zero (encodes s) ∙ rw (first-digit s, f) refl)
+    (λ (e : opens (digit ∷ []) s ≡ true). of_length at z o (escape_length z) None (at_zero (encodes s) ∙ rw (first-digit s, e) refl) (halts at z o (backslash-here at (0x30 ∷ s) (rw e refl))))
+    (λ (f : opens (digit ∷ []) s ≡ false). of_length at z o (escape_length z) (Some 2) (at_zero (encodes s) ∙ rw (first-digit s, f) refl)
     (goes at z o 2 [] s (omega arith) (omega arith) tt t refl
     (backslash-behind at (0x30 ∷ s) s (0x00 ∷ []) (omega arith, t) (rw f refl) ∙ ap (λ n. breach_from n s) (omega arith))))
     (cases_Bool (opens (digit ∷ []) s))
@@ -353,7 +347,7 @@ module _ (at d : ℕ) (s : List ℕ) (t : Text (d ∷ s)) where
   -- b is the first byte of d, and tail the others
   two_on : (b : ℕ) (tail : List ℕ) → Wide tail → len_utf8 d ≡ 1 + length tail → d ≢ 0x78 → d ≢ 0x75 → digit d ≡ false → b ≢ 0x78 → b ≢ 0x75 → digit b ≡ false → Behind at d s (b ∷ tail)
   two_on b tail w l x u f x2 u2 f2 =
-      of_length at z o (escape_length z) 2 (at_other (tail ++ encodes s) b x2 u2 zero ∙ rw f2 refl)
+      of_length at z o (escape_length z) (Some 2) (at_other (tail ++ encodes s) b x2 u2 zero ∙ rw f2 refl)
       (goes at z o 2 tail s (omega arith) (omega arith) w t.1 refl (other_escape at d s t x u f ∙ ap (λ n. breach_from n s) (omega arith)))
     where
       z : List ℕ
@@ -367,7 +361,7 @@ module _ (at d : ℕ) (s : List ℕ) (t : Text (d ∷ s)) where
 
   none_on : digit d ≡ true → d ≢ 0x30 → Behind at d s (d ∷ [])
   none_on e n =
-      of_length at z o (escape_length z) 0 (at_other (encodes s) d x u n ∙ rw e refl) (halts at z o (digit-here at d s e n))
+      of_length at z o (escape_length z) None (at_other (encodes s) d x u n ∙ rw e refl) (halts at z o (digit-here at d s e n))
     where
       z : List ℕ
       z = 0x5C ∷ d ∷ encodes s
@@ -384,8 +378,8 @@ module _ (at d : ℕ) (s : List ℕ) (t : Text (d ∷ s)) where
   x_on : d ≡ 0x78 → Behind at d s (d ∷ [])
   x_on i =
       subst (λ c. Behind at c s (c ∷ [])) (sym i)
-      (of_length at (0x5C ∷ 0x78 ∷ encodes s) (breach_from at (0x5C ∷ 0x78 ∷ s)) _ (cond (opens (is_hex ∷ is_hex ∷ []) s) 4 0)
-      (at_x (encodes s) ∙ rw (first_two (encodes s), same_front (is_hex ∷ is_hex ∷ []) (hex_narrow, (hex_narrow, tt)) s) refl) (x_step at s t.1 (two s)))
+      (of_length at (0x5C ∷ 0x78 ∷ encodes s) (breach_from at (0x5C ∷ 0x78 ∷ s)) _ (cond (opens (hex ∷ hex ∷ []) s) (Some 4) None)
+      (at_x (encodes s) ∙ rw (opens_hex 2 (encodes s), same_front (hex ∷ hex ∷ []) (hex_narrow, (hex_narrow, tt)) s) refl) (x_step at s t.1 (two s)))
 
   u_on : d ≡ 0x75 → Behind at d s (d ∷ [])
   u_on i =
@@ -421,8 +415,8 @@ backslash_front at (d ∷ s) t =
 dollar_front : (at : ℕ) (s : List ℕ) → Text s → Front at 0x24 s (0x24 ∷ [])
 dollar_front at s t =
     ⊎_elim
-    (λ (e : opens (eqb 0x7B ∷ []) s ≡ true). of_length at z o (character_length z) 0 (at_dollar (encodes s) ∙ rw (first, e) refl) (halts at z o (dollar-here at s e)))
-    (λ (f : opens (eqb 0x7B ∷ []) s ≡ false). of_length at z o (character_length z) 1 (at_dollar (encodes s) ∙ rw (first, f) refl)
+    (λ (e : opens (eqb 0x7B ∷ []) s ≡ true). of_length at z o (character_length z) None (at_dollar (encodes s) ∙ rw (first, e) refl) (halts at z o (dollar-here at s e)))
+    (λ (f : opens (eqb 0x7B ∷ []) s ≡ false). of_length at z o (character_length z) (Some 1) (at_dollar (encodes s) ∙ rw (first, f) refl)
     (goes at z o 1 [] s (omega arith) (omega arith) tt t refl (dollar-behind at s t f ∙ ap (λ n. breach_from n s) (omega arith))))
     (cases_Bool (opens (eqb 0x7B ∷ []) s))
   where
@@ -436,12 +430,12 @@ dollar_front at s t =
     first = first_is 0x7B (omega arith) (omega arith) s
 
 backtick_front : (at : ℕ) (s : List ℕ) → Front at 0x60 s (0x60 ∷ [])
-backtick_front at s = of_length at (0x60 ∷ encodes s) (breach_from at (0x60 ∷ s)) _ 0 (at_backtick (encodes s)) (halts at (0x60 ∷ encodes s) _ (backtick_here at s))
+backtick_front at s = of_length at (0x60 ∷ encodes s) (breach_from at (0x60 ∷ s)) _ None (at_backtick (encodes s)) (halts at (0x60 ∷ encodes s) _ (backtick_here at s))
 
 module _ (at c : ℕ) (s : List ℕ) (t : Text (c ∷ s)) where
   other_front : (b : ℕ) (tail : List ℕ) → Wide tail → len_utf8 c ≡ 1 + length tail → b ≢ 0x5C → b ≢ 0x60 → b ≢ 0x24 → c ≢ 0x5C → c ≢ 0x60 → c ≢ 0x24 → Front at c s (b ∷ tail)
   other_front b tail w l p q r p2 q2 r2 =
-      of_length at z (breach_from at (c ∷ s)) (character_length z) 1 (sym (plain z (omega arith) p q r))
+      of_length at z (breach_from at (c ∷ s)) (character_length z) (Some 1) (sym (plain z (omega arith) p q r))
       (goes at z (breach_from at (c ∷ s)) 1 tail s (omega arith) (omega arith) w t.1 refl (other_behind at c s t q2 p2 r2 ∙ ap (λ n. breach_from n s) (omega arith)))
     where
       z : List ℕ
@@ -466,27 +460,34 @@ turn at bytes o h ([], (c ∷ s, w, t, e, b)) =
     (front at c s t (encode c) (encoded c) (length-encode c)))
 turn at bytes o h (x ∷ tail, (text, w, t, e, b)) =
     subst (λ y. Step at y o (character_length y)) (sym e)
-    (of_length at z o (character_length z) 1 (sym (plain z (omega arith) (omega (arith, w.0)) (omega (arith, w.0)) (omega (arith, w.0))))
+    (of_length at z o (character_length z) (Some 1) (sym (plain z (omega arith) (omega (arith, w.0)) (omega (arith, w.0)) (omega (arith, w.0))))
     (goes at z o 1 tail text (omega arith) (omega arith) w.1 t refl (sym b ∙ ap (λ n. breach_from n text) (omega arith))))
   where
     z : List ℕ
     z = x ∷ (tail ++ encodes text)
 
-pub turned : (bytes : List ℕ) (at n : ℕ) (o : Option ℕ) → at < length bytes → n ≡ character_length (take (length bytes - at) (drop at bytes)) → Stands at (drop at bytes) o →
-    (n ≡ 0 → Some at ≡ o) × (0 < n → (at + n ≤ length bytes) × Stands (at + n) (drop (at + n) bytes) o)
-turned bytes at n o h e st =
-    let s : Step at (drop at bytes) o n =
-    of_length at (drop at bytes) o n (character_length (drop at bytes)) (e ∙ ap character_length (take_rest bytes at))
-    (turn at (drop at bytes) o (omega (arith, length-drop at bytes)) st) in (
-      s.0,
-      λ p. (omega (arith, (s.1 p).0, length-drop at bytes), subst (λ x. Stands (at + n) x o) (drop-drop n at bytes) (s.1 p).1),
-    )
+-- the walk at the bytes that are left, where r is the length of the character at their front
+pub turned : (bytes rest : List ℕ) (o r : Option ℕ) → false ≡ eqb (length rest) 0 → r ≡ character_length rest → Stands (length bytes - length rest) rest o →
+    Step (length bytes - length rest) rest o r
+turned bytes rest o r h e st =
+    let n = eqb-false (length rest) 0 (sym h) in
+    of_length (length bytes - length rest) rest o r (character_length rest) e (turn (length bytes - length rest) rest o (omega arith) st)
 
-pub ended : (at : ℕ) (bytes : List ℕ) (o : Option ℕ) → bytes ≡ [] → Stands at bytes o → None ≡ o
-ended at bytes o h ([], ([], w, t, e, b)) = b
-ended at bytes o h ([], (c ∷ s, w, t, e, b)) =
-    absurd (omega (arith, ap length (sym h ∙ e) ∙ length-append (encode c) (encodes s), length-encode c, len_utf8_bounds c))
-ended at bytes o h (x ∷ tail, (text, w, t, e, b)) = absurd (omega (arith, ap length (sym h ∙ e)))
+-- the bytes that are left behind it
+pub onward : (bytes rest : List ℕ) (o : Option ℕ) (n : ℕ) → length rest ≤ length bytes → Step (length bytes - length rest) rest o (Some n) →
+    (length (take (length rest - n) (drop n rest)) < length rest) × (length (take (length rest - n) (drop n rest)) ≤ length bytes)
+    × Stands (length bytes - length (take (length rest - n) (drop n rest))) (take (length rest - n) (drop n rest)) o
+onward bytes rest o n l s =
+    rw take_rest (omega (arith, length-drop n rest, s.0, s.1), omega (arith, length-drop n rest, s.1), subst (λ p. Stands p (drop n rest) o) (omega (arith, length-drop n rest, s.1)) s.2)
+
+pub ended : (at : ℕ) (rest : List ℕ) (o : Option ℕ) → true ≡ eqb (length rest) 0 → Stands at rest o → None ≡ o
+ended at bytes o h st = go bytes (eqb-true (length bytes) 0 (sym h)) st
+  where
+    go : (rest : List ℕ) → length rest ≡ 0 → Stands at rest o → None ≡ o
+    go bytes z ([], ([], w, t, e, b)) = b
+    go bytes z ([], (c ∷ s, w, t, e, b)) =
+        absurd (omega (arith, ap length e ∙ length-append (encode c) (encodes s), length-encode c, len_utf8_bounds c))
+    go bytes z (x ∷ tail, (text, w, t, e, b)) = absurd (omega (arith, ap length e))
 
 text-points : (before : ℕ) (cs : List ℕ) → Points Utf8 before cs → Text cs
 text-points before [] p = tt

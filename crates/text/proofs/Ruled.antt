@@ -8,7 +8,7 @@ use Rattle.text.specs.Laws.{Named, NamePlaced}
 use Rattle.text.specs.Names.{starts_name, continues_name, stops_at, name_breach, Continues, KeepsRule, BreaksRule, NameBreach}
 
 some_none : {X : Type 0} (p : ℕ) → Some p ≡ None → X
-some_none p e = let z : ◌≡◌ {A = ℕ} 0 1 = cc in absurd (omega arith)
+some_none p e = cc
 
 none_some : {X : Type 0} (p : ℕ) → None ≡ Some p → X
 none_some p e = some_none p (sym e)

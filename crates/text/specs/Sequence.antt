@@ -17,9 +17,11 @@ abbrev pub bars : Encoding → ℕ → ℕ → Bool
 bars Wtf8 before c = is_lead before && is_trail c
 bars Utf8 before c = is_surrogate c
 
--- how many bytes a sequence has that begins with b; 0 where none does
-abbrev pub seq_len : ℕ → ℕ
-seq_len b = cond (nat_lt b 0x80) 1 (cond (nat_lt b 0xC0) 0 (cond (nat_lt b 0xE0) 2 (cond (nat_lt b 0xF0) 3 (cond (nat_lt b 0xF8) 4 0))))
+-- how many bytes a sequence has that begins with b, if one does
+abbrev pub seq_len : ℕ → Option ℕ
+seq_len b =
+    cond (nat_lt b 0x80) (Some 1)
+    (cond (nat_lt b 0xC0) None (cond (nat_lt b 0xE0) (Some 2) (cond (nat_lt b 0xF0) (Some 3) (cond (nat_lt b 0xF8) (Some 4) None))))
 
 -- a byte that goes on with a sequence
 abbrev pub goes : ℕ → Bool

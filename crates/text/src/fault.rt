@@ -1,11 +1,10 @@
 //! Why a text value is not made.
 ghost use Rattle.std.specs.Prelude.{◌≡◌};
 ghost use Rattle.text.specs.Answers.{tells};
-ghost use Rattle.refusal.specs.declared.Layer.TheVariants.{Text};
 
-use refusal::{Layer, Refusal};
+use refusal::{Layer, Refusal, Value};
 
-#[derive(Debug, Clone, Copy)]
+#[derive(Clone, Copy, Debug, PartialEq)]
 pub enum TextFault {
     /// Over the limit of its kind.
     TooLong,
@@ -19,27 +18,21 @@ pub enum TextFault {
     NotTemplate(usize),
 }
 
-fn of_text(number: u32, value: usize) -> Refusal
-    ensures { result ≡ record { number = number; layer = Text; value = value } }
-{
-    Refusal {
-        number,
-        layer: Layer::Text,
-        value,
-    }
-}
+impl From<TextFault> for Refusal {
+    ghost from_gives = { λ fault refusal. refusal ≡ tells fault };
 
-impl TextFault {
-    /// The number of the reason, 1 to 5, with its place.
-    pub fn refusal(self) -> Refusal
-        ensures is_what_the_fault_tells { result ≡ tells self }
-    {
-        match self {
-            TextFault::TooLong => of_text(1, 0),
-            TextFault::Malformed(place) => of_text(2, place),
-            TextFault::Misflagged => of_text(3, 0),
-            TextFault::NotName(place) => of_text(4, place),
-            TextFault::NotTemplate(place) => of_text(5, place),
+    fn from(fault: TextFault) -> Refusal {
+        let (number, value) = match fault {
+            TextFault::TooLong => (1, None),
+            TextFault::Malformed(place) => (2, Some(Value::Place(place))),
+            TextFault::Misflagged => (3, None),
+            TextFault::NotName(place) => (4, Some(Value::Place(place))),
+            TextFault::NotTemplate(place) => (5, Some(Value::Place(place))),
+        };
+        Refusal {
+            number,
+            layer: Layer::Text,
+            value,
         }
     }
 }

@@ -2,8 +2,9 @@
 ghost use Rattle.std.specs.Prelude.{◌≡◌, IfOk};
 ghost use Rattle.text.specs.Answers.{returned, text_answer};
 
+use crate::checked::check_encoded;
 use crate::fault::TextFault;
-use crate::well_formed::{Encoding, check};
+use crate::well_formed::Encoding;
 
 /// The most bytes that a text has.
 pub const MAX_TEXT: usize = 16384;
@@ -12,21 +13,15 @@ pub const MAX_TEXT: usize = 16384;
 pub fn check_text(bytes: &[u8], lone: bool) -> Result<(), TextFault>
     ensures refuses_by_one_two_three_in_order { returned result ≡ text_answer bytes.now lone }
 {
-    if bytes.len() > MAX_TEXT {
-        return Err(TextFault::TooLong);
+    let found = check_encoded(Encoding::Wtf8, MAX_TEXT, bytes)?;
+    if found != lone {
+        return Err(TextFault::Misflagged);
     }
-    match check(Encoding::Wtf8, bytes) {
-        Ok(found) => {
-            if found != lone {
-                return Err(TextFault::Misflagged);
-            }
-            Ok(())
-        }
-        Err(place) => Err(TextFault::Malformed(place)),
-    }
+    Ok(())
 }
 
 /// A text that exists is within the limit, well formed and exactly flagged.
+/// It is no `Checked`, since its flag is checked with its bytes.
 #[derive(Drop)]
 pub struct JSStr {
     bytes: Vec<u8>,

@@ -1,49 +1,34 @@
 //! The decoder: the code point at a place, and how many bytes it has.
-ghost use Rattle.std.specs.Prelude.{◌≡◌, ℕ, ◌+◌, ◌<◌, ◌≤◌, ◌&&◌, length, drop, slice_index};
+ghost use Rattle.std.specs.Prelude.{◌≡◌, ℕ, ◌+◌, ◌<◌, ◌≤◌, length, drop, slice_index};
 ghost use Rattle.text.specs.Sequence.{seq_len, goes, held, sequence};
 
-/// The length of the sequence that the byte b leads; 0 where it leads none.
+/// The length of the sequence that the byte b leads, if it leads one.
 /// A lead byte above 7F has as many leading one bits as its character has bytes.
-pub fn sequence_length(b: u8) -> usize
+pub fn sequence_length(b: u8) -> Option<usize>
     ensures is_that_of_the_lead_byte { result ≡ seq_len b }
 {
     match b.leading_ones() {
-        0 => 1,
-        2 => 2,
-        3 => 3,
-        4 => 4,
-        _ => 0,
+        0 => Some(1),
+        2 => Some(2),
+        3 => Some(3),
+        4 => Some(4),
+        _ => None,
     }
 }
 
 fn goes_on(b: u32) -> bool
     ensures { result ≡ goes b }
 {
-    b >= 0x80 && b <= 0xBF
-}
-
-fn both_go_on(b: u32, c: u32) -> bool
-    ensures { result ≡ (goes b && goes c) }
-{
-    goes_on(b) && goes_on(c)
-}
-
-fn all_go_on(b: u32, c: u32, d: u32) -> bool
-    ensures { result ≡ (goes b && goes c && goes d) }
-{
-    both_go_on(b, c) && goes_on(d)
+    matches!(b, 0x80..=0xBF)
 }
 
 /// The byte at a place, 0 past the end.
+// No `Option`: callers ask whether one certain byte stands there, which 0 never is.
 pub fn byte_at(bytes: &[u8], at: usize) -> u32
     ensures is_the_byte_or_zero_past_the_end { result ≡ slice_index bytes.now at }
     ensures is_a_byte { result < 256 }
 {
-    if at < bytes.len() {
-        bytes[at] as u32
-    } else {
-        0
-    }
+    bytes.get(at).map_or(0, |b| *b as u32)
 }
 
 // The code point c of n bytes, if its bytes go on and n is its shortest form; (0, 0) if not.
@@ -58,6 +43,7 @@ fn hold(all: bool, low: u32, c: u32, n: usize) -> (u32, usize)
 }
 
 /// The code point at a place together with its length; (0, 0) where no sequence begins there.
+/// The pair, with no `Option` around it, is a fixed form of the project.
 pub fn decode(bytes: &[u8], at: usize) -> (u32, usize)
     ensures is_the_sequence_there { result ≡ sequence (drop at bytes.now) }
 {
@@ -65,10 +51,9 @@ pub fn decode(bytes: &[u8], at: usize) -> (u32, usize)
         return (0, 0);
     }
     let a = bytes[at] as u32;
-    let n = sequence_length(bytes[at]);
-    if n == 0 {
+    let Some(n) = sequence_length(bytes[at]) else {
         return (0, 0);
-    }
+    };
     if n == 1 {
         return (a, 1);
     }
@@ -79,7 +64,7 @@ pub fn decode(bytes: &[u8], at: usize) -> (u32, usize)
     let c = byte_at(bytes, at + 2);
     if n == 3 {
         return hold(
-            both_go_on(b, c),
+            goes_on(b) & goes_on(c),
             0x800,
             a % 0x10 * 0x1000 + b % 0x40 * 0x40 + c % 0x40,
             3,
@@ -87,7 +72,7 @@ pub fn decode(bytes: &[u8], at: usize) -> (u32, usize)
     }
     let d = byte_at(bytes, at + 3);
     hold(
-        all_go_on(b, c, d),
+        goes_on(b) & goes_on(c) & goes_on(d),
         0x10000,
         a % 8 * 0x40000 + b % 0x40 * 0x1000 + c % 0x40 * 0x40 + d % 0x40,
         4,

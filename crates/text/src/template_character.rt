@@ -1,119 +1,74 @@
-//! Template characters: how many bytes the one at the front has, 0 where there is none.
+//! Template characters: how many bytes the one at the front has, if there is one.
 //!
 //! A byte above 7F counts as a character of its own: behind a backslash, as anywhere, each character above 7F is allowed.
-ghost use Rattle.std.specs.Prelude.{◌≡◌, ◌&&◌, ◌==◌, slice_index};
-ghost use Rattle.ecma262.specs.Lookahead.{digit};
+ghost use Rattle.std.specs.Prelude.{◌≡◌};
+ghost use Rattle.std.specs.Char.{is_ascii_hexdigit};
+ghost use Rattle.std.specs.List.{list_all};
 ghost use Rattle.ecma262.specs.Read.{hex_value};
-ghost use Rattle.text.specs.Template.{is_hex, braced_length, unicode_length, escape_length, character_length};
-
-use crate::sequence::byte_at;
+ghost use Rattle.text.specs.Template.{closes, begins_with_hex, escape_length, character_length};
 
 /// The highest code point that an escape may name.
 const MAX_CODE_POINT: u32 = 0x10FFFF;
 
+// The library's digit, under the name of its definition; crate `job` has its own, as a byte.
 fn hex_value(b: u8) -> Option<u32>
     ensures { result ≡ hex_value b }
 {
-    match b {
-        b'0'..=b'9' => Some((b - b'0') as u32),
-        b'a'..=b'f' => Some((b - b'a') as u32 + 10),
-        b'A'..=b'F' => Some((b - b'A') as u32 + 10),
-        _ => None,
-    }
+    (b as char).to_digit(16)
 }
 
-fn is_hex_at(bytes: &[u8], at: usize) -> bool
-    ensures { result ≡ is_hex (slice_index bytes.now at) }
+// The length of an escape \u{..} by the bytes behind its brace: hexadecimal digits, and the brace that closes them.
+fn braced_escape_length(digits: &[u8]) -> Option<usize>
+    ensures { result ≡ closes 3 0 digits.now }
 {
-    at < bytes.len() && hex_value(bytes[at]).is_some()
-}
-
-fn is_digit_at(bytes: &[u8], at: usize) -> bool
-    ensures { result ≡ digit (slice_index bytes.now at) }
-{
-    let b = byte_at(bytes, at);
-    b >= b'0' as u32 && b <= b'9' as u32
-}
-
-fn is_brace_at(bytes: &[u8], at: usize) -> bool
-    ensures { result ≡ ((slice_index bytes.now at) == 0x7B) }
-{
-    byte_at(bytes, at) == b'{' as u32
-}
-
-// Behind a backslash and a letter.
-fn has_two_hex(bytes: &[u8]) -> bool
-    ensures { result ≡ (is_hex (slice_index bytes.now 2) && is_hex (slice_index bytes.now 3)) }
-{
-    is_hex_at(bytes, 2) && is_hex_at(bytes, 3)
-}
-
-fn has_four_hex(bytes: &[u8]) -> bool
-    ensures { result ≡ (is_hex (slice_index bytes.now 2) && is_hex (slice_index bytes.now 3) && is_hex (slice_index bytes.now 4) && is_hex (slice_index bytes.now 5)) }
-{
-    has_two_hex(bytes) && is_hex_at(bytes, 4) && is_hex_at(bytes, 5)
-}
-
-// The bytes begin with \u{; any number of digits goes on with it, at least one.
-fn braced_escape_length(bytes: &[u8]) -> usize
-    ensures { result ≡ braced_length bytes.now }
-{
-    if byte_at(bytes, 3) == b'}' as u32 {
-        return 0;
-    }
     let mut value = 0;
-    for i in 3..bytes.len() {
-        if bytes[i] == b'}' {
-            return i + 1;
+    for (i, b) in digits.iter().enumerate() {
+        if *b == b'}' {
+            return Some(i + 4);
         }
-        match hex_value(bytes[i]) {
-            Some(digit) => value = value * 16 + digit,
-            None => return 0,
-        }
+        value = value * 16 + hex_value(*b)?;
         if value > MAX_CODE_POINT {
-            return 0;
+            return None;
         }
     }
-    0
+    None
 }
 
-// The bytes begin with \u.
-fn unicode_escape_length(bytes: &[u8]) -> usize
-    ensures { result ≡ unicode_length bytes.now }
+fn all_hex(digits: &[u8]) -> bool
+    ensures { result ≡ list_all is_ascii_hexdigit digits.now }
 {
-    if is_brace_at(bytes, 2) {
-        return braced_escape_length(bytes);
-    }
-    if has_four_hex(bytes) { 6 } else { 0 }
+    digits.iter().all(|b| b.is_ascii_hexdigit())
+}
+
+// Whether the bytes begin with n hexadecimal digits.
+#[tactic(auto, unfolding(crate::specs::Template::begins_with_hex))]
+fn begins_with_hex(n: usize, bytes: &[u8]) -> bool
+    ensures { result ≡ begins_with_hex n bytes.now }
+{
+    n <= bytes.len() && all_hex(&bytes[..n])
 }
 
 // The bytes begin with a backslash, which a TemplateEscapeSequence or a LineContinuation has to follow.
-fn escape_length(bytes: &[u8]) -> usize
+fn escape_length(bytes: &[u8]) -> Option<usize>
     ensures { result ≡ escape_length bytes.now }
 {
-    if bytes.len() <= 1 {
-        return 0;
-    }
-    match bytes[1] {
-        b'x' => if has_two_hex(bytes) { 4 } else { 0 },
-        b'u' => unicode_escape_length(bytes),
-        b'0' => if is_digit_at(bytes, 2) { 0 } else { 2 },
-        b'1'..=b'9' => 0,
-        _ => 2,
+    match bytes {
+        [_, b'x', digits @ ..] => begins_with_hex(2, digits).then_some(4),
+        [_, b'u', b'{', b'}', ..] => None,
+        [_, b'u', b'{', digits @ ..] => braced_escape_length(digits),
+        [_, b'u', digits @ ..] => begins_with_hex(4, digits).then_some(6),
+        [] | [_] | [_, b'0', b'0'..=b'9', ..] | [_, b'1'..=b'9', ..] => None,
+        _ => Some(2),
     }
 }
 
-/// The length of the character at the front of the bytes; 0 where a backtick, a `${` or a bad backslash stands there.
-pub fn character_length(bytes: &[u8]) -> usize
+/// The length of the character at the front of the bytes; none where a backtick, a `${` or a bad backslash stands there.
+pub fn character_length(bytes: &[u8]) -> Option<usize>
     ensures is_that_of_the_first_character { result ≡ character_length bytes.now }
 {
-    if bytes.len() == 0 {
-        return 0;
-    }
-    match bytes[0] {
-        b'\\' => escape_length(bytes),
-        b'`' => 0,
-        b'$' => if is_brace_at(bytes, 1) { 0 } else { 1 },
-        _ => 1,
+    match bytes {
+        [b'\\', ..] => escape_length(bytes),
+        [] | [b'`', ..] | [b'$', b'{', ..] => None,
+        _ => Some(1),
     }
 }

@@ -1,13 +1,14 @@
 //! Template text: UTF-8 bytes of which all is TemplateCharacters.
-ghost use Rattle.std.specs.Prelude.{◌≡◌, IfOk, None};
+ghost use Rattle.std.specs.Prelude.{◌≡◌, None};
 ghost use Rattle.ecma262.specs.Template.{template_breach};
 ghost use Rattle.text.specs.declared.well_formed.Encoding.TheVariants.{Utf8};
 ghost use Rattle.text.specs.Answers.{returned, template_answer};
 ghost use Rattle.text.specs.Sequence.{breach, code_points};
 
+use crate::checked::{Checked, Rule, check_encoded};
 use crate::fault::TextFault;
 use crate::template_character::character_length;
-use crate::well_formed::{Encoding, check};
+use crate::well_formed::Encoding;
 
 /// The most bytes that template text has.
 pub const MAX_TEMPLATE_TEXT: usize = 16384;
@@ -17,13 +18,12 @@ fn template_breach(bytes: &[u8]) -> Option<usize>
     requires well_formed { breach Utf8 bytes.now ≡ None }
     ensures is_the_standards { result ≡ template_breach (code_points bytes.now) }
 {
-    let mut at = 0;
-    while at < bytes.len() {
-        let length = character_length(&bytes[at..]);
-        if length == 0 {
-            return Some(at);
+    let mut rest = bytes;
+    while !rest.is_empty() {
+        match character_length(rest) {
+            Some(n) => rest = &rest[n..],
+            None => return Some(bytes.len() - rest.len()),
         }
-        at += length;
     }
     None
 }
@@ -32,40 +32,24 @@ fn template_breach(bytes: &[u8]) -> Option<usize>
 pub fn check_template_text(bytes: &[u8]) -> Result<(), TextFault>
     ensures refuses_by_one_two_five_in_order { returned result ≡ template_answer bytes.now }
 {
-    if bytes.len() > MAX_TEMPLATE_TEXT {
-        return Err(TextFault::TooLong);
+    check_encoded(Encoding::Utf8, MAX_TEMPLATE_TEXT, bytes)?;
+    match template_breach(bytes) {
+        None => Ok(()),
+        Some(place) => Err(TextFault::NotTemplate(place)),
     }
-    match check(Encoding::Utf8, bytes) {
-        Ok(_) => {
-            match template_breach(bytes) {
-                None => Ok(()),
-                Some(place) => Err(TextFault::NotTemplate(place)),
-            }
-        }
-        Err(place) => Err(TextFault::Malformed(place)),
+}
+
+/// The rule of template text.
+#[derive(Drop)]
+pub struct TemplateTextRule;
+
+impl Rule for TemplateTextRule {
+    ghost verdict = { template_answer };
+
+    fn check(bytes: &[u8]) -> Result<(), TextFault> {
+        check_template_text(bytes)
     }
 }
 
 /// Template text that exists is within the limit, well-formed UTF-8 and has no breach.
-#[derive(Drop)]
-pub struct TemplateText {
-    bytes: Vec<u8>,
-    ghost good: { (template_answer bytes.items).number ≡ 0 },
-}
-
-impl TemplateText {
-    /// The template text of these bytes. A refusal lets them go.
-    pub fn new(bytes: Vec<u8>) -> Result<TemplateText, TextFault>
-        ensures refuses_by_one_two_five_in_order { returned result ≡ template_answer bytes.items }
-        ensures holds_the_bytes { IfOk result (λ t. t.bytes ≡ bytes) }
-    {
-        check_template_text(bytes.as_slice())?;
-        Ok(TemplateText { bytes })
-    }
-
-    pub fn as_bytes(&self) -> &[u8]
-        ensures are_the_template_texts { result.now ≡ self.now.bytes.items }
-    {
-        self.bytes.as_slice()
-    }
-}
+pub type TemplateText = Checked<TemplateTextRule>;

@@ -1,13 +1,13 @@
 //! The check of bytes, and its theorems.
-ghost use Rattle.std.specs.Prelude.{◌≡◌, ◌&&◌, ◌||◌, ◌==◌};
-ghost use Rattle.text.specs.Sequence.{breach, marked, is_lead, is_trail, is_surrogate, bars};
+ghost use Rattle.std.specs.Prelude.{◌≡◌};
+ghost use Rattle.text.specs.Sequence.{breach, marked, is_surrogate, bars};
 ghost use Rattle.text.specs.Answers.{checked};
 ghost use Rattle.text.specs.Laws.{Accepted, Placed, Longest, Sequences, Marked, Read};
 
 use crate::sequence::decode;
 
 /// What surrogates may stand in the bytes.
-#[derive(Clone, Copy)]
+#[derive(Debug, Clone, Copy, PartialEq, Eq)]
 pub enum Encoding {
     /// Surrogates, but no lead surrogate directly before a trail surrogate.
     Wtf8,
@@ -18,58 +18,40 @@ pub enum Encoding {
 fn is_surrogate(c: u32) -> bool
     ensures { result ≡ is_surrogate c }
 {
-    c >= 0xD800 && c <= 0xDFFF
-}
-
-fn is_pair(before: u32, c: u32) -> bool
-    ensures { result ≡ (is_lead before && is_trail c) }
-{
-    before >= 0xD800 && before <= 0xDBFF && c >= 0xDC00 && c <= 0xDFFF
+    matches!(c, 0xD800..=0xDFFF)
 }
 
 // Whether the code point c may not stand behind the code point before.
+// A match on the encoding, and no closure: the definition that it is proved equal to has these two cases.
 fn is_barred(encoding: Encoding, before: u32, c: u32) -> bool
     ensures { result ≡ bars encoding before c }
 {
     match encoding {
-        Encoding::Wtf8 => is_pair(before, c),
+        Encoding::Wtf8 => matches!((before, c), (0xD800..=0xDBFF, 0xDC00..=0xDFFF)),
         Encoding::Utf8 => is_surrogate(c),
     }
-}
-
-// Whether the bytes break here, where the decoder answered (c, n) behind the code point before.
-fn breaks(encoding: Encoding, before: u32, c: u32, n: usize) -> bool
-    ensures { result ≡ (n == 0 || bars encoding before c) }
-{
-    n == 0 || is_barred(encoding, before, c)
-}
-
-fn or_surrogate(lone: bool, c: u32) -> bool
-    ensures { result ≡ (lone || is_surrogate c) }
-{
-    lone || is_surrogate(c)
 }
 
 /// Whether there is a surrogate in bytes that are well formed; else the place of the first sequence that breaks the encoding.
 pub fn check(encoding: Encoding, bytes: &[u8]) -> Result<bool, usize>
     ensures answers_the_flag_or_the_first_breach { result ≡ checked (breach encoding bytes.now) (marked 0 bytes.now) }
 {
-    let mut at = 0;
+    let mut rest = bytes;
+    // No code point stands before the first: 0 bars none.
     let mut before = 0;
     let mut lone = false;
-    while at < bytes.len() {
-        let b = bytes[at];
-        if b < 0x80 {
-            before = b as u32;
-            at += 1;
+    while let [b, tail @ ..] = rest {
+        if b.is_ascii() {
+            before = *b as u32;
+            rest = tail;
         } else {
-            let (c, n) = decode(bytes, at);
-            if breaks(encoding, before, c, n) {
-                return Err(at);
+            let (c, n) = decode(rest, 0);
+            if n == 0 || is_barred(encoding, before, c) {
+                return Err(bytes.len() - rest.len());
             }
-            lone = or_surrogate(lone, c);
+            lone |= is_surrogate(c);
             before = c;
-            at += n;
+            rest = &rest[n..];
         }
     }
     Ok(lone)

@@ -1,24 +1,13 @@
-use Rattle.std.proofs.Common.{false, length, ap, ◌∙◌, arith}
+use Rattle.std.proofs.Common.{length, ap, ◌∙◌, arith}
 use Rattle.codegen.specs.declared.raw_kind.RawKind.TheVariants.{Name}
-use Rattle.codegen.specs.RawCursor.{body_in}
-use Rattle.codegen.proofs.RawKept.{name-fits, kind_is}
+use Rattle.codegen.specs.RawTexts.{name_bytes}
+use Rattle.codegen.proofs.RawKept.{name_fits, kind_bound}
 use Rattle.codegen.proofs.raw.name_size.Goals as goal
 
-pub raw_size-requires : goal.raw_size-requires
-raw_size-requires c =
-    let t = c.args.name.now in
-    let f = name-fits t.bytes.items c.as_bytes.result.now t.good c.as_bytes.ensures.are_the_names in
-    record { fit = f.0; small = omega (arith, f.1) }
-
-pub returns : goal.returns
-returns c =
-    let o = c.args.options in
-    let t = c.args.name.now in
-    let bytes = t.bytes.items in
-    let shown = c.as_bytes.result.now in
-    let f = name-fits bytes shown t.good c.as_bytes.ensures.are_the_names in
-    let e = ap (λ style. body_in style false shown) c.style_of-style.ensures ∙ kind_is Name o.minify o.ascii_only bytes shown c.as_bytes.ensures.are_the_names in
-    record {
-      is_the_names_length = c.raw_size.ensures.is ∙ ap length e;
-      is_at_most_384 = omega (arith, c.raw_size.ensures.small, f.1);
-    }
+pub returns-clause-is_at_most_384 : goal.returns-clause-is_at_most_384
+returns-clause-is_at_most_384 c =
+    let name = c.args.name.now in
+    let f = name_fits name.bytes.items name.good in
+    let b = kind_bound Name c.args.options name.bytes.items name.good in
+    let e = ap length (c.new.ensures ∙ ap (name_bytes c.args.options.ascii_only) c.as_bytes.ensures.are_its_bytes) in
+    omega (arith, c.size.ensures.is_its_length, f.1)

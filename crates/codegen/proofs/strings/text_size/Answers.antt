@@ -1,9 +1,13 @@
-use Rattle.std.proofs.Common.{◌∙◌}
-use Rattle.codegen.proofs.Texts.{fits_as}
+use Rattle.std.proofs.Common.{length, ap, arith}
+use Rattle.codegen.specs.Strings.{settled}
+use Rattle.codegen.proofs.Bound.{quoted_bound}
+use Rattle.codegen.proofs.Texts.{text-fits}
 use Rattle.codegen.proofs.strings.text_size.Goals as goal
 
-pub literal_size-requires : goal.literal_size-requires
-literal_size-requires c =
-    let t = c.args.text.now in
-    let f = fits_as t.bytes.items c.as_bytes.result.now t.lone c.has_lone_surrogate-lone.result t.good c.as_bytes.ensures.are_the_texts c.has_lone_surrogate-lone.ensures.is_the_flag in
-    record { table = c.table_or_escapes.ensures ∙ c.own_table-own.ensures; fit = f.0; small = f.1 }
+pub returns-clause-small : goal.returns-clause-small
+returns-clause-small c =
+    let s = c.args.style in
+    let bytes = c.args.text.bytes.now in
+    let f = text-fits bytes c.args.text.lone c.args.text.checked in
+    let b = quoted_bound (settled s.quote s.allow_backtick bytes) s.ascii_only c.args.text.lone bytes f.0 in
+    omega (arith, f.1, ap length c.new.ensures)

@@ -1,32 +1,30 @@
-use Rattle.std.proofs.Common.{drop, arith}
-use Rattle.std.proofs.lemmas.List.{at_drop_all}
-use Rattle.ecma262.specs.Template.{template_breach}
-use Rattle.text.specs.Sequence.{code_points}
-use Rattle.text.proofs.Passed.{turned, ended, begins}
+use Rattle.std.proofs.Common.{arith}
+use Rattle.std.proofs.Math.Nat.{sub_self}
+use Rattle.text.proofs.Passed.{turned, onward, ended, begins}
 use Rattle.text.proofs.template_text.template_breach.Goals as goal
 
-pub loop-at-init : goal.loop-at-init
-loop-at-init c = begins c.args.bytes.now c.requires.well_formed
+pub loop-rest-init : goal.loop-rest-init
+loop-rest-init c = (omega arith, rw sub_self (begins c.args.bytes.now c.requires.well_formed))
 
-pub returns-then-length-eq0 : goal.returns-then-length-eq0
-returns-then-length-eq0 c = record {
-  is_the_standards = (turned c.args.bytes.now c.loop-at.at c.character_length-length.result (template_breach (code_points c.args.bytes.now)) c.loop-at-test.true
-      c.character_length-length.ensures.is_that_of_the_first_character c.loop-at.invariant).0 c.if-length-eq0.true;
+pub slice_bounds-rest-count : goal.slice_bounds-rest-count
+slice_bounds-rest-count c = (turned c.args.bytes.now c.loop-rest.rest.now _ _ c.loop-rest-test.ensures c.in-Some.ensures.is_that_of_the_first_character c.loop-rest.invariant.1).1
+
+pub slice_bounds-rest-start : goal.slice_bounds-rest-start
+slice_bounds-rest-start c = (turned c.args.bytes.now c.loop-rest.rest.now _ _ c.loop-rest-test.ensures c.in-Some.ensures.is_that_of_the_first_character c.loop-rest.invariant.1).1
+
+pub loop-rest-smaller : goal.loop-rest-smaller
+loop-rest-smaller c =
+    (onward c.args.bytes.now c.loop-rest.rest.now _ c.in-Some.n c.loop-rest.invariant.0 (turned c.args.bytes.now c.loop-rest.rest.now _ _ c.loop-rest-test.ensures c.in-Some.ensures.is_that_of_the_first_character c.loop-rest.invariant.1)).0
+
+pub loop-rest-preserved : goal.loop-rest-preserved
+loop-rest-preserved c =
+    let s = onward c.args.bytes.now c.loop-rest.rest.now _ c.in-Some.n c.loop-rest.invariant.0 (turned c.args.bytes.now c.loop-rest.rest.now _ _ c.loop-rest-test.ensures c.in-Some.ensures.is_that_of_the_first_character c.loop-rest.invariant.1) in
+    (s.1, s.2)
+
+pub returns-in-None : goal.returns-in-None
+returns-in-None c = record {
+  is_the_standards = turned c.args.bytes.now c.loop-rest.rest.now _ _ c.loop-rest-test.ensures c.in-None.ensures.is_that_of_the_first_character c.loop-rest.invariant.1;
 }
-
-pub overflow_add-at : goal.overflow_add-at
-overflow_add-at c =
-    let t = (turned c.args.bytes.now c.loop-at.at c.character_length-length.result (template_breach (code_points c.args.bytes.now)) c.loop-at-test.true
-    c.character_length-length.ensures.is_that_of_the_first_character c.loop-at.invariant).1 (omega (arith, c.if-length-eq0.false)) in
-    omega (arith, t.0)
-
-pub loop-at-preserved : goal.loop-at-preserved
-loop-at-preserved c =
-    ((turned c.args.bytes.now c.loop-at.at c.character_length-length.result (template_breach (code_points c.args.bytes.now)) c.loop-at-test.true
-    c.character_length-length.ensures.is_that_of_the_first_character c.loop-at.invariant).1 (omega (arith, c.if-length-eq0.false))).1
 
 pub returns : goal.returns
-returns c = record {
-  is_the_standards = ended c.loop-at.at (drop c.loop-at.at c.args.bytes.now) (template_breach (code_points c.args.bytes.now))
-      (at_drop_all (λ s. s) c.args.bytes.now c.loop-at.at c.loop-at-test.false) c.loop-at.invariant;
-}
+returns c = record { is_the_standards = ended _ c.loop-rest.rest.now _ c.loop-rest-test.ensures c.loop-rest.invariant.1 }

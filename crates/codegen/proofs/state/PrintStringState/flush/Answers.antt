@@ -1,19 +1,10 @@
-use Rattle.std.proofs.Common.{ap, arith}
-use Rattle.codegen.proofs.Cursor.{chunk_room, chunk_printed}
+use Rattle.std.proofs.Common.{subst}
+use Rattle.buffer.specs.Printing.{Appends}
+use Rattle.buffer.proofs.Printing.{appends_join}
+use Rattle.codegen.proofs.Cursor.{same_chunk}
 use Rattle.codegen.proofs.state.PrintStringState.flush.Goals as goal
 
-pub print_with_room-requires : goal.print_with_room-requires
-print_with_room-requires g c =
+pub returns-clause-appends : goal.returns-clause-appends
+returns-clause-appends g c =
     let e = c.calculate_quote.ensures in
-    let r = chunk_room g.B.CodeBuffer c.args.self.now c.calculate_quote.new.self e.settles c.args.code.now c.calculate_quote.new.code e.appends
-    c.args.self.now.at c.calculate_quote.new.self.at (ap (λ x. x.at) e.settles) 0 (omega (arith, c.requires.room)) in
-    record { room = omega arith }
-
-pub returns : goal.returns
-returns g c =
-    let e = c.calculate_quote.ensures in
-    record {
-      settles = e.settles;
-      appends = chunk_printed g.B.CodeBuffer c.args.self.now c.calculate_quote.new.self e.settles c.args.code.now c.calculate_quote.new.code e.appends
-          c.args.self.now.at c.calculate_quote.new.self.at (ap (λ x. x.at) e.settles) c.print_with_room.ensures;
-    }
+    appends_join g.B.CodeBuffer e.appends (subst (Appends g.B.CodeBuffer _ _) (same_chunk e.settles c.args.self.now.at c.calculate_quote.new.self.at e.settles.at) c.print_with_room.ensures)

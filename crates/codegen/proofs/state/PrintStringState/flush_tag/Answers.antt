@@ -1,32 +1,25 @@
-use Rattle.std.proofs.Common.{◌+◌, [], ◌∷◌, ap, arith, length-append}
-use Rattle.std.specs.List.{between}
+use Rattle.std.proofs.Common.{◌+◌, ap, subst, arith}
+use Rattle.buffer.specs.Printing.{Appends}
 use Rattle.buffer.proofs.Printing.{appends_join}
-use Rattle.codegen.specs.Cursor.{opening, quote_of, start_chunk, consume}
-use Rattle.codegen.proofs.Cursor.{chunk_room, chunk_printed, room_behind}
+use Rattle.codegen.specs.declared.turn.Turn.TheVariants.{Tag}
+use Rattle.codegen.proofs.Cursor.{same_chunk}
+use Rattle.codegen.proofs.Advance.{on_within, next_fit, tag_on}
 use Rattle.codegen.proofs.state.PrintStringState.flush_tag.Goals as goal
 
-pub print_with_room-requires : goal.print_with_room-requires
-print_with_room-requires g c =
-    let e = c.calculate_quote.ensures in
-    let r = chunk_room g.B.CodeBuffer c.args.self.now c.calculate_quote.new.self e.settles c.args.code.now c.calculate_quote.new.code e.appends
-    (c.args.self.now.at + 1) (c.calculate_quote.new.self.at + 1) (ap (λ x. x.at + 1) e.settles) 2 c.requires.room in
-    record { room = omega arith }
+pub invariant_of-self : goal.invariant_of-self
+invariant_of-self g c =
+    let e = c.calculate_quote.ensures.settles in
+    record {
+      order = omega arith;
+      within = rw (e.literal, e.at) (on_within c.args.self.now Tag c.requires.turn);
+      fit = rw (e.literal, e.at) (next_fit c.args.self.now Tag c.requires.turn);
+    }
 
-pub print_with_room-requires-2 : goal.print_with_room-requires-2
-print_with_room-requires-2 g c =
+pub returns-clause-advanced : goal.returns-clause-advanced
+returns-clause-advanced g c =
+    let m = g.B.CodeBuffer in
     let e = c.calculate_quote.ensures in
     let s = c.args.self.now in
-    let l = length-append (opening s.quote (quote_of s)) (between s.chunk_start (s.at + 1) s.bytes.now) in
-    let p = chunk_printed g.B.CodeBuffer c.args.self.now c.calculate_quote.new.self e.settles c.args.code.now c.calculate_quote.new.code e.appends
-    (c.args.self.now.at + 1) (c.calculate_quote.new.self.at + 1) (ap (λ x. x.at + 1) e.settles) c.print_with_room.ensures in
-    record { room = room_behind g.B.CodeBuffer (0x5C ∷ 0x2F ∷ []) p (omega (arith, c.requires.room)) }
-
-pub returns : goal.returns
-returns g c =
-    let e = c.calculate_quote.ensures in
-    let p = chunk_printed g.B.CodeBuffer c.args.self.now c.calculate_quote.new.self e.settles c.args.code.now c.calculate_quote.new.code e.appends
-    (c.args.self.now.at + 1) (c.calculate_quote.new.self.at + 1) (ap (λ x. x.at + 1) e.settles) c.print_with_room.ensures in
-    record {
-      moves = ap (λ x. start_chunk (consume 2 x)) e.settles;
-      appends = appends_join g.B.CodeBuffer p c.print_with_room-2.ensures;
-    }
+    let at = ap (λ x. x + 2) e.settles.at in
+    let chunk = subst (Appends m c.calculate_quote.new.code c.print_with_room.new.code) (same_chunk e.settles (s.at + 1) (c.calculate_quote.new.self.at + 1) (ap (λ x. x + 1) e.settles.at)) c.print_with_room.ensures in
+    tag_on m s c.requires.turn (record { literal = e.settles.literal; chunk_start = at; at = at; quote = e.settles.quote }) (appends_join m (appends_join m e.appends chunk) c.print_with_room-2.ensures)

@@ -1,9 +1,0 @@
-use Rattle.std.proofs.Common.{◌-◌, length}
-use Rattle.codegen.specs.Cursor.{Advanced}
-use Rattle.codegen.proofs.print.print_body.Given as goal
-
-abbrev pub invariant-loop-state : goal.invariant-loop-state
-invariant-loop-state g l = Advanced g.B.CodeBuffer l.escaping.ascii_only l.escaping.lone l.initial.state l.state l.initial.code l.code
-
-abbrev pub decreases-loop-state : goal.decreases-loop-state
-decreases-loop-state g l = length l.bytes - l.state.at

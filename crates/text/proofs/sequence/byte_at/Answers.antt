@@ -1,9 +1,0 @@
-use Rattle.std.proofs.Common.{sym, arith}
-use Rattle.std.proofs.lemmas.List.{get_or_past}
-use Rattle.text.proofs.sequence.byte_at.Goals as goal
-
-pub returns-else-at-bytes : goal.returns-else-at-bytes
-returns-else-at-bytes c = record {
-  is_the_byte_or_zero_past_the_end = sym (get_or_past c.args.bytes.now c.args.at 0 (omega arith));
-  is_a_byte = omega arith;
-}
