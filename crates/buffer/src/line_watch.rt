@@ -31,6 +31,7 @@ impl<B: CodeBuffer> CodeBuffer for LineWatch<B> {
 
     ghost notes = { watch_notes B.CodeBuffer };
 
+    // Passed on, as by `Quota`.
     fn held(&self) -> usize {
         self.below.held()
     }

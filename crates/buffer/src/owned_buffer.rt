@@ -68,7 +68,7 @@ impl OwnedBuffer {
         &self.cells[..self.used]
     }
 
-    /// Ends it: its cells, and how many of the first of them it held.
+    /// Ends it: its cells, and how many of the first of them it held; memory is fixed, so they go back as they are.
     pub fn finish(self) -> ([u8; OWNED_LIMIT], usize)
         ensures answers_how_many_it_held { result.1 ≡ length (held_bytes self.used self.cells) }
         ensures shows_what_it_held { take result.1 result.0 ≡ held_bytes self.used self.cells }

@@ -8,7 +8,7 @@
 //! `specs/Answers.antt` has the answer and what `out` holds then; `answer` packs an answer into one number.
 #![tactic(auto)]
 
-ghost use Rattle.std.specs.Prelude.{◌≡◌, false};
+ghost use Rattle.std.specs.Prelude.{◌≡◌};
 ghost use Rattle.text.specs.Answers.{text_answer};
 ghost use Rattle.codegen.specs.Strings.{literal_bytes};
 ghost use Rattle.codegen.specs.RawKinds.{check_of, printed_of};
@@ -49,6 +49,7 @@ fn piece_kind(tagged: u32) -> RawKind
 }
 
 // Checks and prints raw text of a kind.
+// `jslit_print_string` has the same three steps: a closure for the print between them would need clauses longer than both.
 fn print_kind(kind: RawKind, options: CodegenOptions, raw: &[u8], out: &mut [u8]) -> u64
     ensures answers_for_its_kind { result ≡ packed (answer_for (check_of kind raw.now) out.old (printed_of kind options raw.now)) }
     ensures prints_at_the_front_or_touches_nothing { out.new ≡ out_after (check_of kind raw.now) out.old (printed_of kind options raw.now) }
@@ -57,6 +58,8 @@ fn print_kind(kind: RawKind, options: CodegenOptions, raw: &[u8], out: &mut [u8]
     let answer = print_raw_bytes(&mut code, options, kind, raw);
     packed_answer(answer.and(Ok(code.finish())))
 }
+
+// Five functions that differ in little, on numbers and bytes: the C interface.
 
 /// Prints a text as a string literal.
 #[unsafe(no_mangle)]

@@ -1,5 +1,5 @@
 -- The literal of a text: its quotes by the options, and its bytes.
-use Rattle.std.specs.Prelude.{◌≡◌, ℕ, ◌+◌, ◌<◌, ◌≤◌, Bool, cond, List, [], ◌∷◌, Some, None, Option}
+use Rattle.std.specs.Prelude.{ℕ, Bool, cond, List, [], ◌∷◌, Some, None, Option}
 use Rattle.std.proofs.Math.Utf8.{encodes}
 use Rattle.ecma262.specs.declared.Quote.{Quote}
 use Rattle.ecma262.specs.declared.Quote.TheVariants.{Single, Double}
@@ -52,8 +52,3 @@ quote_of_text o allow bytes = quote_for o allow (code_points bytes)
 -- the bytes of the literal of a text under the options
 abbrev pub literal_bytes : CodegenOptions → Bool → List ℕ → List ℕ
 literal_bytes o allow bytes = quoted (quote_of_text o allow bytes) o.ascii_only bytes
-
--- the need, where a text of n bytes does not fit behind what is held
-abbrev pub Needed : ℕ → ℕ → ℕ → Option ℕ → Type 0
-Needed held limit n None = held + n ≤ limit
-Needed held limit n (Some need) = (need ≡ held + n) × (limit < need)

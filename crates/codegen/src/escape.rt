@@ -69,7 +69,7 @@ static ESCAPES: [Escape; 256] = [
     No, No, No, No, No, No, No, No, No, No, No, No, No, No, No, No, // F
 ];
 
-// A copy with an entry replaced, as the next one with several: the tables are to be made so.
+// A function for each table: that they are copies of `ESCAPES` with entries replaced is a fixed form of the project.
 // As `ESCAPES`, for a text with lone surrogates: ED leads to them.
 fn escapes_wtf8() -> [Escape; 256]
     ensures { result ≡ table_of false true }

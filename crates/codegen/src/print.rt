@@ -59,7 +59,7 @@ impl StringStyle {
     }
 }
 
-/// The bytes of a text with its flag.
+/// The bytes of a text with its flag, which stand side by side in the format.
 #[derive(Clone, Copy)]
 pub struct TextBytes<'t> {
     pub bytes: &'t [u8],
@@ -93,7 +93,7 @@ impl<'t> Literal<'t> {
         }
     }
 
-    // The quote, chosen by the text where it is not known.
+    // The quote, chosen by the text where it is not known: for measuring; the cursor prints it too, where it needs it first.
     fn settled_quote(&self) -> Quote
         ensures { result ≡ settled self.now.quote self.now.allow_backtick self.now.bytes.now }
     {

@@ -1,5 +1,5 @@
 //! The printing of raw text: template pieces, directives, patterns of regular expressions, and names.
-ghost use Rattle.std.specs.Prelude.{◌≡◌, ◌≤◌, false, length};
+ghost use Rattle.std.specs.Prelude.{◌≡◌, ◌≤◌, length};
 ghost use Rattle.buffer.specs.Printing.{Prints};
 ghost use Rattle.codegen.specs.Checked.{PrintsChecked};
 ghost use Rattle.codegen.specs.RawKinds.{check_of, printed_of};
@@ -14,7 +14,7 @@ use buffer::{BufferFault, CodeBuffer};
 use options::CodegenOptions;
 use text::{Name, RawText, TemplateText};
 
-// The calls below are one line each over a `RawCode`; they are the ported crate's, and each has promises of its own.
+// One line each over a `RawCode`. The prints are the ported crate's and have promises of their own; a size is told for each that items of a page need.
 
 /// How many bytes `print_template_quasi_raw` prints.
 #[tactic(auto, using(crate::proofs::RawKept::kind_fits, crate::proofs::RawKept::kind_bound))]
@@ -110,6 +110,7 @@ pub fn print_name<B: CodeBuffer>(
     print_whole(&RawCode::new(RawKind::Name, options, name.as_bytes()), code)
 }
 
+// Beside `print_string_bytes`: the two differ in what is checked and by which arguments; the rest is shared.
 /// Checks lent bytes, and prints them where they are raw text of this kind, whole or not at all.
 pub fn print_raw_bytes<B: CodeBuffer>(
     code: &mut B,

@@ -1,5 +1,5 @@
 //! One turn of the raw printer: what raw text asks for at a place, and what is printed there.
-ghost use Rattle.std.specs.Prelude.{◌≡◌, ◌+◌, ◌≤◌, length};
+ghost use Rattle.std.specs.Prelude.{◌≡◌, length};
 ghost use Rattle.ecma262.specs.Units.{utf16};
 ghost use Rattle.literal.specs.Raw.{wide, unit_escapes, wide_escape};
 ghost use Rattle.buffer.specs.Printing.{Appends};

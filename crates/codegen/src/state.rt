@@ -1,5 +1,5 @@
 //! The string printer's cursor. The chunk between `chunk_start` and `at` is still to be flushed.
-ghost use Rattle.std.specs.Prelude.{◌≡◌, ℕ, ◌+◌, ◌≤◌, ◌∷◌, length, drop};
+ghost use Rattle.std.specs.Prelude.{◌≡◌, ◌≤◌, length, drop};
 ghost use Rattle.std.proofs.Props.{props};
 ghost use Rattle.literal.specs.Escapes.{behind};
 ghost use Rattle.buffer.specs.Printing.{Appends};
@@ -30,7 +30,7 @@ pub struct PrintStringState<'s, 't> {
 
 // A step asks for room, and for a byte at the cursor: both change from step to step, so no field can hold them.
 impl<'s, 't> PrintStringState<'s, 't> {
-    ghost use Rattle.std.specs.Prelude.{◌≡◌, ℕ, ◌+◌, ◌<◌, ◌≤◌, ◌++◌, length};
+    ghost use Rattle.std.specs.Prelude.{◌≡◌, ◌+◌, ◌<◌, ◌≤◌, ◌++◌, length};
     ghost use Rattle.buffer.specs.Printing.{Appends};
     ghost use Rattle.codegen.specs.declared.turn.Turn.TheVariants.{Escaped, Tag};
     ghost use Rattle.codegen.specs.Strings.{opening};
@@ -56,7 +56,7 @@ impl<'s, 't> PrintStringState<'s, 't> {
 
     /// Prints the opening quote, where it is not printed yet, and the chunk up to the cursor.
     pub fn flush<B: CodeBuffer>(&mut self, code: &mut B)
-        requires room { length (B.CodeBuffer.bytes code.old) + length (opening self.old.quote (quote_of self.old)) + length (chunk self.old self.old.at) ≤ B.CodeBuffer.limit_of code.old }
+        requires room { HasRoom B.CodeBuffer code.old (opening self.old.quote (quote_of self.old) ++ chunk self.old self.old.at) }
         ensures settles { GoesOn self.old.chunk_start self.old.at self.old self.new }
         ensures appends { Appends B.CodeBuffer code.old code.new (opening self.old.quote (quote_of self.old) ++ chunk self.old self.old.at) }
     {

@@ -46,7 +46,7 @@ fn print_text<B: CodeBuffer>(
     print_whole(&Literal::new(&table, style, text), code)
 }
 
-// The calls below are the ported crate's, each with promises of its own; what they share is above.
+// What the calls share is above. The prints are the ported crate's and have promises of their own; a size is told for each that items of a page need.
 
 /// How many bytes `print_string` prints.
 pub fn string_size(options: CodegenOptions, text: &JSStr, allow_backtick: bool) -> usize
@@ -105,6 +105,7 @@ pub fn print_string_literal_as_template<B: CodeBuffer>(
     print_text(code, template, bytes_of(text))
 }
 
+// Beside `print_raw_bytes`: the two differ in what is checked and by which arguments; the rest is shared.
 /// Checks lent bytes with this flag, and prints them as a string literal where they are a text, whole or not at all.
 pub fn print_string_bytes<B: CodeBuffer>(
     code: &mut B,

@@ -114,7 +114,7 @@ pub fn is_script_close_tag(text: &[u8]) -> bool
     text.len() >= 8 && text[..8].eq_ignore_ascii_case(b"</script")
 }
 
-// By place, since the cursor that asks has places, and what is decided needs the byte ahead too.
+// By place, and each asks that it is inside: a slice from there on would be no plainer, since the cursor that calls has places.
 impl<'t> Escaping<'t> {
     /// Escaping by this table.
     pub fn new(table: &'t EscapeTable) -> Escaping<'t>

@@ -1,7 +1,7 @@
 //! Code that is printed whole or not at all.
 ghost use Rattle.std.specs.Prelude.{◌≡◌, ℕ, ◌+◌, ◌≤◌, List, length};
 ghost use Rattle.buffer.specs.Printing.{Prints, Appends};
-ghost use Rattle.codegen.specs.Strings.{Needed};
+ghost use Rattle.buffer.specs.Meaning.{print_answer};
 ghost use Rattle.codegen.specs.Room.{HasRoom};
 
 use buffer::{BufferFault, CodeBuffer};
@@ -27,20 +27,23 @@ pub trait Printable {
         ensures appends { Appends B.CodeBuffer out.old out.new (code self.now) };
 }
 
-// What the code needs, where it does not fit. It is measured only where its bound does not fit.
-fn need_if_too_long<P: Printable, B: CodeBuffer>(printable: &P, out: &B) -> Option<usize>
-    ensures { Needed (length (B.CodeBuffer.bytes out.now)) (B.CodeBuffer.limit_of out.now) (length (P.code printable.now)) result }
+// Whether the code fits, or the fault that tells its need. It is measured only where its bound does not fit.
+fn refuse_if_too_long<P: Printable, B: CodeBuffer>(
+    printable: &P,
+    out: &B,
+) -> Result<(), BufferFault>
+    ensures { result ≡ print_answer (B.CodeBuffer.bytes out.now) (B.CodeBuffer.limit_of out.now) (P.code printable.now) }
 {
     let held = out.held();
     let limit = out.limit();
     if held + printable.size_bound() <= limit {
-        return None;
+        return Ok(());
     }
     let need = held + printable.size();
     if need > limit {
-        return Some(need);
+        return Err(BufferFault::Full(need));
     }
-    None
+    Ok(())
 }
 
 /// Prints the code, or refuses it whole.
@@ -50,11 +53,7 @@ pub fn print_whole<P: Printable, B: CodeBuffer>(
 ) -> Result<(), BufferFault>
     ensures prints { Prints B.CodeBuffer out.old out.new (P.code printable.now) result }
 {
-    match need_if_too_long(printable, out) {
-        Some(need) => Err(BufferFault::Full(need)),
-        None => {
-            printable.print_to(out);
-            Ok(())
-        }
-    }
+    refuse_if_too_long(printable, out)?;
+    printable.print_to(out);
+    Ok(())
 }

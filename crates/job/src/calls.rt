@@ -49,6 +49,7 @@ impl CallKind {
     ];
 
     /// The keyword of the call.
+    // Said once, here: printing and the search by keyword read it.
     pub fn keyword(self) -> &'static str
         ensures the_keyword { result.now ≡ spelled self }
     {

@@ -23,6 +23,7 @@ pub enum Expected {
 
 impl Expected {
     /// The words that follow `expected`.
+    // A public call of its own beside `Display`, for who wants the words without a writer.
     pub fn words(self) -> &'static str
         ensures what_was_expected { result.now ≡ awaited self }
     {

@@ -7,7 +7,7 @@ use crate::faults::{Expected, LineError};
 use std::alloc::Global;
 
 /// The value of a hex digit, of either case.
-// The library's digit as a byte; crate `text` has it as a number.
+// The library's digit as a byte; crate `text` has it as a number: sharing one line would tie two crates.
 pub fn hex_value(b: u8) -> Option<u8>
     ensures value_of_a_digit { result ≡ digit b }
 {

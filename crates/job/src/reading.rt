@@ -115,7 +115,7 @@ impl Draft {
 }
 
 /// The text that a call's argument writes.
-// A match, here and for the flag: a form is a value of the keyword's table, of which there are two.
+// A match, here and for the flag: a closure for each form would say the same two cases, and a keyword could not be compared.
 fn text_of(heap: Global, form: Form, argument: &[u8]) -> Result<Vec<u8>, LineError>
     ensures as_its_form_says { TextRead form argument.now result }
 {

@@ -7,6 +7,7 @@ use crate::faults::Expected;
 use options::CodegenOptions;
 
 /// The largest quota that a job may set.
+// A rule of jobs, which happens to be a buffer's greatest limit too.
 pub const MAX_LIMIT: usize = 65_536;
 
 /// Sets the option, which was not set before.
@@ -21,6 +22,7 @@ fn set_once(option: &mut bool) -> Result<(), Expected>
 }
 
 /// Sets the option of this name.
+// A chain of texts: see `is_text`.
 fn set_by_name(options: &mut CodegenOptions, name: &[u8]) -> Result<(), Expected>
     ensures a_known_one_set_once { Taken (with_name options.old name.now) result options.new }
 {

@@ -23,6 +23,7 @@ pub enum Form {
 }
 
 /// What the surrogate flag of a text is to be.
+// No `Option<bool>`: these are three words of the format, and read better by name.
 #[derive(Clone, Copy, Debug, PartialEq)]
 pub enum Flag {
     /// What is exact for the bytes.
@@ -34,6 +35,7 @@ pub enum Flag {
 }
 
 /// The keyword that a line's first word is.
+// A chain of texts, here and below: see `is_text`.
 #[tactic(auto, unfolding(crate::specs::Words::keyword_of))]
 pub fn keyword_of(word: &[u8]) -> Option<Keyword>
     ensures the_keyword_if_it_is_one { result ≡ keyword_of word.now }

@@ -3,6 +3,7 @@ use job::{JobError, JobFault};
 use std::{fmt, io};
 
 /// Why the program did not do what it was asked for.
+// It takes a job's two errors apart, to print them beside its own.
 #[derive(Drop)]
 pub enum Failure {
     /// A line of the job is none.

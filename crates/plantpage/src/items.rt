@@ -1,5 +1,5 @@
 //! Items of the page: a literal, then a comma and a line feed, whole or not at all.
-ghost use Rattle.std.specs.Prelude.{◌≡◌, ◌+◌, ◌≤◌, ◌++◌, length};
+ghost use Rattle.std.specs.Prelude.{◌≡◌, ◌≤◌, length};
 ghost use Rattle.buffer.specs.Printing.{Prints};
 ghost use Rattle.plantpage.specs.Items.{literal_of, item_of};
 

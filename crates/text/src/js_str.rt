@@ -21,7 +21,7 @@ pub fn check_text(bytes: &[u8], lone: bool) -> Result<(), TextFault>
 }
 
 /// A text that exists is within the limit, well formed and exactly flagged.
-/// It is no `Checked`, since its flag is checked with its bytes.
+/// It is no `Checked`, since its flag is checked with its bytes; the flag stands beside them in the format.
 #[derive(Drop)]
 pub struct JSStr {
     bytes: Vec<u8>,

@@ -5,7 +5,7 @@
 //! - `well_formed`: the check of WTF-8 and of UTF-8, which answers the first breach's place;
 //! - `fault`: why a value is not made, with the number 1 to 5 of each reason;
 //! - `checked`: the tests that every check begins with, and the values that a rule accepts;
-//! - `js_str`, `raw_text`, `names`: three values, each with its rule as an invariant of the type, and the check of bytes that its maker goes by;
+//! - `js_str`, `raw_text`, `names`: three values, each with its rule, and the check of bytes that its maker goes by;
 //! - `template_character`: how many bytes a character of template text has, its escapes among them;
 //! - `template_text`: the fourth value.
 //!

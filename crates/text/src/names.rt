@@ -45,6 +45,7 @@ fn name_breach(bytes: &[u8]) -> Option<usize>
 }
 
 /// Whether these bytes are a name, or why not.
+// As the check of template text, but for its limit, search and fault: three arguments would be no plainer.
 pub fn check_name(bytes: &[u8]) -> Result<(), TextFault>
     ensures refuses_by_one_two_four_in_order { returned result ≡ name_answer bytes.now }
 {

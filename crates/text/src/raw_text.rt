@@ -6,7 +6,7 @@ use crate::checked::{Checked, Rule, check_encoded};
 use crate::fault::TextFault;
 use crate::well_formed::Encoding;
 
-/// The most bytes that raw text has.
+/// The most bytes that raw text has: a rule of its own, as each limit is.
 pub const MAX_RAW_TEXT: usize = 16384;
 
 /// Whether these bytes are raw text, or why not.

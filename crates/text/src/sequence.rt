@@ -1,5 +1,5 @@
 //! The decoder: the code point at a place, and how many bytes it has.
-ghost use Rattle.std.specs.Prelude.{◌≡◌, ℕ, ◌+◌, ◌<◌, ◌≤◌, length, drop, slice_index};
+ghost use Rattle.std.specs.Prelude.{◌≡◌, ◌<◌, length, drop, slice_index};
 ghost use Rattle.text.specs.Sequence.{seq_len, goes, held, sequence};
 
 /// The length of the sequence that the byte b leads, if it leads one.
@@ -23,7 +23,7 @@ fn goes_on(b: u32) -> bool
 }
 
 /// The byte at a place, 0 past the end.
-// No `Option`: callers ask whether one certain byte stands there, which 0 never is.
+// No `Option`: to each caller the end is as a byte that has no part in anything, and the definitions read 0 there too.
 pub fn byte_at(bytes: &[u8], at: usize) -> u32
     ensures is_the_byte_or_zero_past_the_end { result ≡ slice_index bytes.now at }
     ensures is_a_byte { result < 256 }
@@ -31,6 +31,7 @@ pub fn byte_at(bytes: &[u8], at: usize) -> u32
     bytes.get(at).map_or(0, |b| *b as u32)
 }
 
+// As `decode`, a pair with no `Option`.
 // The code point c of n bytes, if its bytes go on and n is its shortest form; (0, 0) if not.
 fn hold(all: bool, low: u32, c: u32, n: usize) -> (u32, usize)
     ensures { result ≡ held all low c n }

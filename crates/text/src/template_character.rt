@@ -10,7 +10,7 @@ ghost use Rattle.text.specs.Template.{closes, begins_with_hex, escape_length, ch
 /// The highest code point that an escape may name.
 const MAX_CODE_POINT: u32 = 0x10FFFF;
 
-// The library's digit, under the name of its definition; crate `job` has its own, as a byte.
+// The library's digit under the name of its definition; crate `job` has its own, as a byte: sharing one line would tie two crates.
 fn hex_value(b: u8) -> Option<u32>
     ensures { result ≡ hex_value b }
 {

@@ -10,7 +10,7 @@ use crate::fault::TextFault;
 use crate::template_character::character_length;
 use crate::well_formed::Encoding;
 
-/// The most bytes that template text has.
+/// The most bytes that template text has: a rule of its own, as each limit is.
 pub const MAX_TEMPLATE_TEXT: usize = 16384;
 
 // The place of the first backtick, `${` or bad backslash.
