@@ -14,7 +14,7 @@ pub watch_notes : {S : Type 0} (m : Ghosts S) → Noting (Watched m)
 watch_notes m = record {
   nothing = λ b. record { counts_what_was_appended = refl; noted_below = m.notes.nothing b.below };
   joined = λ a b c s t first second. record {
-    counts_what_was_appended = second.counts_what_was_appended ∙ ap (λ n. tally n t) first.counts_what_was_appended ∙ sym (fold-append stepped (counts a) s t);
+    counts_what_was_appended = second.counts_what_was_appended ∙ ap (λ n. tally n t) first.counts_what_was_appended ∙ sym (fold-append stepped (counts m a) s t);
     noted_below = m.notes.joined a.below b.below c.below s t first.noted_below second.noted_below;
   };
 }

@@ -1,5 +1,6 @@
 //! That what a layer notes is known through the layers over it, and through code that prints to any code buffer.
-ghost use Rattle.std.specs.Prelude.{◌≡◌};
+ghost use Rattle.std.specs.Prelude.{◌≡◌, length};
+ghost use Rattle.buffer.specs.Kinds.{quota_limit};
 ghost use Rattle.buffer.specs.Meaning.{accepted};
 ghost use Rattle.buffer.specs.Printing.{Prints};
 ghost use Rattle.buffer.specs.Tally.{tally};
@@ -21,7 +22,7 @@ fn print_over_a_watch<B: CodeBuffer>(
     code: &mut Quota<LineWatch<B>>,
     text: &[u8],
 ) -> Result<(), BufferFault>
-    ensures watch_below_counts { counts code.new.below ≡ tally (counts code.old.below) (accepted (B.bytes code.old.below.below) code.old.limit text.now) }
+    ensures watch_below_counts { counts B.CodeBuffer code.new.below ≡ tally (counts B.CodeBuffer code.old.below) (accepted (B.bytes code.old.below.below) (quota_limit (length (B.bytes code.old.below.below)) code.old.limit (B.limit_of code.old.below.below)) text.now) }
 {
     print_to_any(code, text)
 }

@@ -1,15 +1,14 @@
 //! A layer that counts the lines and columns of what is printed through it.
-ghost use Rattle.std.specs.Prelude.{◌≡◌, ◌≤◌, length};
+ghost use Rattle.std.specs.Prelude.{◌≡◌};
 
 use super::code_buffer::{BufferFault, CodeBuffer};
 use super::tally::Tally;
 
 /// Passes bytes through, and counts their line feeds and the bytes since the last of these, or since it was made.
+// No invariant, as in `Quota`: what was counted is never more than is held, and the meaning says so.
 pub struct LineWatch<B: CodeBuffer> {
     below: B,
     tally: Tally,
-    ghost line_feeds_are_held: { tally.line_feeds ≤ length (B.bytes below) },
-    ghost column_is_held: { tally.column ≤ length (B.bytes below) },
 }
 
 impl<B: CodeBuffer> CodeBuffer for LineWatch<B> {
@@ -41,8 +40,9 @@ impl<B: CodeBuffer> CodeBuffer for LineWatch<B> {
     }
 
     fn print(&mut self, text: &[u8]) -> Result<(), BufferFault> {
+        let tally = self.tally();
         self.below.print(text)?;
-        self.tally = self.tally.after(text);
+        self.tally = tally.after(text);
         Ok(())
     }
 }
@@ -54,7 +54,7 @@ impl<B: CodeBuffer> LineWatch<B> {
     /// Watches this buffer from here on.
     pub fn new(below: B) -> LineWatch<B>
         ensures holds_the_buffer_as_it_came { result.below ≡ below }
-        ensures has_counted_nothing_yet { counts result ≡ nothing_yet }
+        ensures has_counted_nothing_yet { counts B.CodeBuffer result ≡ nothing_yet }
         ensures tally_is_plain_counts { TallyIsPlainCounts }
     {
         LineWatch {
@@ -66,18 +66,28 @@ impl<B: CodeBuffer> LineWatch<B> {
         }
     }
 
+    // What came so far.
+    fn tally(&self) -> Tally
+        ensures { result ≡ counts B.CodeBuffer self.now }
+    {
+        Tally {
+            line_feeds: self.line_feeds(),
+            column: self.column(),
+        }
+    }
+
     /// How many line feeds came.
     pub fn line_feeds(&self) -> usize
-        ensures answers_how_many_line_feeds_came { result ≡ (counts self.now).line_feeds }
+        ensures answers_how_many_line_feeds_came { result ≡ (counts B.CodeBuffer self.now).line_feeds }
     {
-        self.tally.line_feeds
+        self.tally.line_feeds.min(self.below.held())
     }
 
     /// How many bytes came since the last line feed, or in all where none came.
     pub fn column(&self) -> usize
-        ensures answers_how_many_bytes_came_since { result ≡ (counts self.now).column }
+        ensures answers_how_many_bytes_came_since { result ≡ (counts B.CodeBuffer self.now).column }
     {
-        self.tally.column
+        self.tally.column.min(self.below.held())
     }
 
     /// Gives the buffer back.

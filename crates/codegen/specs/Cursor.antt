@@ -1,5 +1,5 @@
 -- The printer's cursor: what is still pending, and what each of its steps keeps.
-use Rattle.std.specs.Prelude.{◌≡◌, ℕ, true, List, ◌++◌, drop, Some}
+use Rattle.std.specs.Prelude.{◌≡◌, ℕ, Bool, true, List, ◌++◌, drop, Some}
 use Rattle.std.specs.List.{between}
 use Rattle.ecma262.specs.declared.Quote.{Quote}
 use Rattle.buffer.specs.declared.code_buffer.CodeBuffer.{Ghosts}
@@ -36,9 +36,13 @@ pub record GoesOn (start place : ℕ) (from to : PrintStringState) : Type 0 wher
   pub at : to.at ≡ place
   pub quote : to.quote ≡ Some (quote_of from)
 
--- Where the quote decides what is printed next, it is settled.
+-- whether the quote decides what is printed next
+abbrev pub quote_decides : PrintStringState → Bool
+quote_decides s = decides_at s.literal.now.escaping.ascii_only s.literal.now.escaping.lone s.literal.now.bytes.now s.at
+
+-- Where it does, it is settled.
 abbrev pub Known : PrintStringState → Type 0
-Known s = decides_at s.literal.now.escaping.ascii_only s.literal.now.escaping.lone s.literal.now.bytes.now s.at ≡ true → s.quote ≡ Some (quote_of s)
+Known s = quote_decides s ≡ true → s.quote ≡ Some (quote_of s)
 
 -- a right turn at the cursor
 abbrev pub TurnedHere : PrintStringState → Turn → Type 0

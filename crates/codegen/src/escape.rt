@@ -103,17 +103,25 @@ impl EscapeTable {
         ensures option { result.ascii_only ≡ ascii_only }
         ensures text { result.lone ≡ lone }
     {
-        let own = if ascii_only {
-            Some(escapes_ascii_only())
+        // Each arm makes its value whole: joined before, the table would be moved once more, even where there is none.
+        if ascii_only {
+            EscapeTable {
+                own: Some(escapes_ascii_only()),
+                ascii_only,
+                lone,
+            }
         } else if lone {
-            Some(escapes_wtf8())
+            EscapeTable {
+                own: Some(escapes_wtf8()),
+                ascii_only,
+                lone,
+            }
         } else {
-            None
-        };
-        EscapeTable {
-            own,
-            ascii_only,
-            lone,
+            EscapeTable {
+                own: None,
+                ascii_only,
+                lone,
+            }
         }
     }
 

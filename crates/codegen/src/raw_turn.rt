@@ -1,5 +1,5 @@
 //! One turn of the raw printer: what raw text asks for at a place, and what is printed there.
-ghost use Rattle.std.specs.Prelude.{◌≡◌, length};
+ghost use Rattle.std.specs.Prelude.{◌≡◌, ◌≤◌, length};
 ghost use Rattle.ecma262.specs.Units.{utf16};
 ghost use Rattle.literal.specs.Raw.{wide, unit_escapes, wide_escape};
 ghost use Rattle.buffer.specs.Printing.{Appends};
@@ -83,7 +83,8 @@ fn wide_sequence(c: u32) -> EscapeSequence
 // How many bytes the escape of a character above U+007F has.
 // The mode is passed down and matched, here as in printing: a closed set, of which one alone differs.
 fn wide_size(mode: NonAsciiEscape, c: u32) -> usize
-    ensures { result ≡ length (wide_escape mode c) }
+    ensures is { result ≡ length (wide_escape mode c) }
+    ensures small { result ≤ 12 }
 {
     match mode {
         NonAsciiEscape::RegExp => if c < 0x10000 { 6 } else { 12 }

@@ -30,11 +30,12 @@ pub struct PrintStringState<'s, 't> {
 
 // A step asks for room, and for a byte at the cursor: both change from step to step, so no field can hold them.
 impl<'s, 't> PrintStringState<'s, 't> {
-    ghost use Rattle.std.specs.Prelude.{◌≡◌, ◌+◌, ◌<◌, ◌≤◌, ◌++◌, length};
+    ghost use Rattle.std.specs.Prelude.{◌≡◌, ◌+◌, ◌<◌, ◌≤◌, [], ◌∷◌, ◌++◌, true, false, length};
+    ghost use Rattle.literal.specs.Escapes.{behind};
     ghost use Rattle.buffer.specs.Printing.{Appends};
     ghost use Rattle.codegen.specs.declared.turn.Turn.TheVariants.{Escaped, Tag};
     ghost use Rattle.codegen.specs.Strings.{opening};
-    ghost use Rattle.codegen.specs.Cursor.{quote_of, chunk, Room, GoesOn, Known, TurnedHere, Advanced};
+    ghost use Rattle.codegen.specs.Cursor.{quote_of, chunk, Room, GoesOn, quote_decides, Known, TurnedHere, Advanced};
 
     /// The quote; where it is not settled yet, chosen for the rest of the text, and the opening quote printed.
     pub fn calculate_quote<B: CodeBuffer>(&mut self, code: &mut B) -> Quote
@@ -68,6 +69,8 @@ impl<'s, 't> PrintStringState<'s, 't> {
     fn flush_and_escape<B: CodeBuffer>(&mut self, code: &mut B, c: u32, e: EscapeSequence, n: usize)
         requires turn { TurnedHere self.old (Escaped e c n) }
         requires room { Room B.CodeBuffer code.old self.old }
+        ensures moves { GoesOn (self.old.at + n) (self.old.at + n) self.old self.new }
+        ensures appends { Appends B.CodeBuffer code.old code.new ((opening self.old.quote (quote_of self.old) ++ chunk self.old self.old.at) ++ (0x5C ∷ behind c e)) }
         ensures advanced { Advanced B.CodeBuffer self.old self.new code.old code.new }
         ensures further { self.old.at < self.new.at }
     {
@@ -81,6 +84,8 @@ impl<'s, 't> PrintStringState<'s, 't> {
     fn flush_tag<B: CodeBuffer>(&mut self, code: &mut B)
         requires turn { TurnedHere self.old Tag }
         requires room { Room B.CodeBuffer code.old self.old }
+        ensures moves { GoesOn (self.old.at + 2) (self.old.at + 2) self.old self.new }
+        ensures appends { Appends B.CodeBuffer code.old code.new ((opening self.old.quote (quote_of self.old) ++ chunk self.old (self.old.at + 1)) ++ (0x5C ∷ 0x2F ∷ [])) }
         ensures advanced { Advanced B.CodeBuffer self.old self.new code.old code.new }
         ensures further { self.old.at < self.new.at }
     {
@@ -95,6 +100,8 @@ impl<'s, 't> PrintStringState<'s, 't> {
     fn settle_where_decisive<B: CodeBuffer>(&mut self, code: &mut B)
         requires inside { self.old.at < length self.old.literal.now.bytes.now }
         requires room { Room B.CodeBuffer code.old self.old }
+        ensures settles { quote_decides self.old ≡ true → GoesOn self.old.chunk_start self.old.at self.old self.new }
+        ensures nowhere_else { quote_decides self.old ≡ false → self.new ≡ self.old }
         ensures advanced { Advanced B.CodeBuffer self.old self.new code.old code.new }
         ensures known { Known self.new }
         ensures stays { self.new.at ≡ self.old.at }
