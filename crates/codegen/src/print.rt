@@ -159,7 +159,10 @@ impl<'t> Printable for Literal<'t> {
         4 * self.bytes.len() + 2
     }
 
-    fn size(&self) -> usize {
+    fn size(&self) -> usize
+        ensures is_its_length { result ≡ length (quoted (settled self.now.quote self.now.allow_backtick self.now.bytes.now) self.now.escaping.ascii_only self.now.bytes.now) }
+        ensures is_at_most_65538 { result ≤ 65538 }
+    {
         self.body_size(self.settled_quote()) + 2
     }
 

@@ -1,5 +1,5 @@
 //! Raw text of a kind, as code that knows its length and prints itself.
-ghost use Rattle.std.specs.Prelude.{◌≡◌};
+ghost use Rattle.std.specs.Prelude.{◌≡◌, ◌*◌, ◌≤◌, length};
 ghost use Rattle.codegen.specs.RawKinds.{check_of, printed_of};
 
 use crate::raw_kind::RawKind;
@@ -53,7 +53,10 @@ impl<'t> Printable for RawCode<'t> {
     }
 
     #[tactic(auto, using(crate::proofs::RawKept::kind_fits, crate::proofs::RawKept::kind_bound, crate::proofs::RawBound::counted))]
-    fn size(&self) -> usize {
+    fn size(&self) -> usize
+        ensures is_its_length { result ≡ length (printed_of self.now.kind self.now.options self.now.bytes.now) }
+        ensures is_at_most_three_times_as_long { result ≤ 3 * length self.now.bytes.now }
+    {
         let mut state = self.state();
         let mut size = 0;
         while let Some(turn) = state.next_turn() {
