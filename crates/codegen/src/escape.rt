@@ -70,7 +70,9 @@ static ESCAPES: [Escape; 256] = [
 ];
 
 // A function for each table: that they are copies of `ESCAPES` with entries replaced is a fixed form of the project.
+// Neither is inlined: the caller would clear the place of a table at every print, also where the text needs none.
 // As `ESCAPES`, for a text with lone surrogates: ED leads to them.
+#[inline(never)]
 fn escapes_wtf8() -> [Escape; 256]
     ensures { result ≡ table_of false true }
 {
@@ -80,6 +82,7 @@ fn escapes_wtf8() -> [Escape; 256]
 }
 
 // As `ESCAPES`, where every character above U+007F is escaped: each lead byte leads to one.
+#[inline(never)]
 fn escapes_ascii_only() -> [Escape; 256]
     ensures { result ≡ table_of true false }
 {
@@ -103,25 +106,17 @@ impl EscapeTable {
         ensures option { result.ascii_only ≡ ascii_only }
         ensures text { result.lone ≡ lone }
     {
-        // Each arm makes its value whole: joined before, the table would be moved once more, even where there is none.
-        if ascii_only {
-            EscapeTable {
-                own: Some(escapes_ascii_only()),
-                ascii_only,
-                lone,
-            }
+        let own = if ascii_only {
+            Some(escapes_ascii_only())
         } else if lone {
-            EscapeTable {
-                own: Some(escapes_wtf8()),
-                ascii_only,
-                lone,
-            }
+            Some(escapes_wtf8())
         } else {
-            EscapeTable {
-                own: None,
-                ascii_only,
-                lone,
-            }
+            None
+        };
+        EscapeTable {
+            own,
+            ascii_only,
+            lone,
         }
     }
 
