@@ -82,3 +82,26 @@ fn a_watch_counts_what_comes_through_a_quota(rt: HostRuntime) {
     assert_eq!(rt; (watch.line_feeds(), watch.column()), (1, 2));
     let _ = watch.into_inner();
 }
+
+/// A caller's struct, which holds layer over layer over any buffer.
+struct Sheet<B: CodeBuffer> {
+    code: Quota<LineWatch<B>>,
+}
+
+impl<B: CodeBuffer> Sheet<B> {
+    fn over(below: B) -> Sheet<B> {
+        Sheet {
+            code: Quota::new(LineWatch::new(below), 3),
+        }
+    }
+}
+
+#[test]
+fn a_struct_over_any_buffer_may_hold_layers(rt: HostRuntime) {
+    let mut sheet = Sheet::over(OwnedBuffer::new());
+    assert_eq!(rt; sheet.code.print(b"a\nb"), Ok(()));
+    assert_eq!(rt; sheet.code.print(b"c"), Err(BufferFault::Full(4)));
+    let watch = sheet.code.into_inner();
+    assert_eq!(rt; (watch.line_feeds(), watch.column()), (1, 1));
+    let _ = watch.into_inner();
+}
