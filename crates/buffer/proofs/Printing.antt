@@ -93,6 +93,10 @@ module _ {S : Type 0} (m : Ghosts S) where
         noted = rw fits p.noted;
       }
 
+  -- printing nothing
+  pub prints_nothing : (b : S) → Prints m b b [] (Ok tt)
+  prints_nothing b = appends_prints (appends-nothing b) refl (omega (arith, m.laws.within b))
+
   -- how much is held after an append
   pub appended_length : {a b : S} {s : List ℕ} → Appends m a b s → length (m.bytes b) ≡ length (m.bytes a) + length s
   appended_length {a} {b} {s} p = ap length p.appends ∙ length-append (m.bytes a) s

@@ -101,7 +101,8 @@ fn a_struct_over_any_buffer_may_hold_layers(rt: HostRuntime) {
     let mut sheet = Sheet::over(OwnedBuffer::new());
     assert_eq!(rt; sheet.code.print(b"a\nb"), Ok(()));
     assert_eq!(rt; sheet.code.print(b"c"), Err(BufferFault::Full(4)));
-    let watch = sheet.code.into_inner();
+    let Sheet { code } = sheet;
+    let watch = code.into_inner();
     assert_eq!(rt; (watch.line_feeds(), watch.column()), (1, 1));
     let _ = watch.into_inner();
 }

@@ -16,7 +16,7 @@ use Rattle.text.specs.declared.well_formed.Encoding.TheVariants.{Utf8}
 use Rattle.text.specs.Wtf8.{Barred, Points}
 use Rattle.text.proofs.Formed.{read}
 use Rattle.literal.proofs.Sizes.{shortest_chosen}
-use Rattle.text.specs.declared.js_str.JSStr.{JSStr}
+use Rattle.text.specs.Answers.{text_answer}
 use Rattle.text.specs.Sequence.{code_points}
 use Rattle.options.specs.declared.CodegenOptions.{CodegenOptions}
 use Rattle.codegen.specs.Strings.{source_text, quoted}
@@ -38,36 +38,34 @@ all_scalars before (c ∷ cs) h =
     let q = scalar_point before c p.0 in
     (q.0, q.1, all_scalars c cs p.1)
 
-module _ (t : JSStr) (q : Quote) (ascii : Bool) where
-  abbrev bytes : List ℕ
-  bytes = t.bytes.items
+module _ (bytes : List ℕ) (lone : Bool) (good : (text_answer bytes lone).number ≡ 0) where
+  pub points : Text (code_points bytes)
+  points = all-points lone (code_points bytes) (text-fits bytes lone good).0.1
 
-  points : Text (code_points bytes)
-  points = all-points t.lone (code_points bytes) (text-fits bytes t.lone t.good).0.1
+  module _ (q : Quote) (ascii : Bool) where
+    law : Stands q ascii (code_points bytes)
+    law = stands q ascii (code_points bytes) points
 
-  law : Stands q ascii (code_points bytes)
-  law = stands q ascii (code_points bytes) points
+    source : Points Utf8 0 (source_text q ascii bytes)
+    source = all_scalars 0 (source_text q ascii bytes) (all_scalar q ascii (code_points bytes) points)
 
-  source : Points Utf8 0 (source_text q ascii bytes)
-  source = all_scalars 0 (source_text q ascii bytes) (all_scalar q ascii (code_points bytes) points)
+    pub in_utf8 : InUtf8 q ascii bytes
+    unfolding quoted
+    in_utf8 = ((source_text q ascii bytes, source, refl), read Utf8 (source_text q ascii bytes) source)
 
-  pub in_utf8 : InUtf8 q ascii bytes
-  unfolding quoted
-  in_utf8 = ((source_text q ascii bytes, source, refl), read Utf8 (source_text q ascii bytes) source)
+    pub read_back : ReadBack q ascii bytes
+    read_back rest = law.denotes rest
 
-  pub read_back : ReadBack q ascii bytes
-  read_back rest = law.denotes rest
+    pub read_once : ReadOnce q ascii bytes
+    read_once rest end value l = unique q (source_text q ascii bytes ++ rest) end rest value (text_units bytes) l (law.denotes rest)
 
-  pub read_once : ReadOnce q ascii bytes
-  read_once rest end value l = unique q (source_text q ascii bytes ++ rest) end rest value (text_units bytes) l (law.denotes rest)
+    pub no_script_end : NoScriptEnd q ascii bytes
+    unfolding quoted
+    no_script_end place = law.tagless place
 
-  pub no_script_end : NoScriptEnd q ascii bytes
-  unfolding quoted
-  no_script_end place = law.tagless place
-
-  pub ascii_if_asked : AsciiIfAsked q ascii bytes
-  unfolding quoted
-  ascii_if_asked e = law.plain e
+    pub ascii_if_asked : AsciiIfAsked q ascii bytes
+    unfolding quoted
+    ascii_if_asked e = law.plain e
 
 pub shortest_under_minify : (o : CodegenOptions) (allow : Bool) (bytes : List ℕ) → ShortestUnderMinify o allow bytes
 unfolding quoted

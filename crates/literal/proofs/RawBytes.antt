@@ -1,9 +1,9 @@
 -- The walk over raw text, for code that reads and writes bytes of UTF-8: what it prints of one character, and how it goes on.
 use Rattle.std.proofs.lemmas.Bool.Decides.{nat_tests}
-use Rattle.std.proofs.Common.{◌≡◌, ℕ, ◌<◌, ◌≤◌, Bool, false, cond, not, ◌&&◌, ◌||◌, eqb, leb, List, [], ◌∷◌, ◌++◌, sym, refl, ap, ◌∙◌, ⊎_elim, arith}
+use Rattle.std.proofs.Common.{◌≡◌, ℕ, ◌<◌, ◌≤◌, Bool, true, false, cond, not, ◌&&◌, ◌||◌, eqb, leb, List, [], ◌∷◌, ◌++◌, sym, refl, ap, ◌∙◌, subst, ⊎_elim, arith}
 use lib.Utf8.{encode, encodes}
 use Rattle.std.specs.List.{AllByRecursion}
-use Rattle.std.proofs.lemmas.Bool.{cases_lt, le-leb, ne_eqb}
+use Rattle.std.proofs.lemmas.Bool.{and_right, cases_lt, le-leb, ne_eqb}
 use Rattle.std.proofs.lemmas.Str.{encodes-append}
 use Rattle.ecma262.specs.Lookahead.{opens}
 use Rattle.ecma262.proofs.Utf8.{encode_1, Encoded, ascii, wide, encoded, same_front, eqb_narrow}
@@ -12,12 +12,22 @@ use Rattle.literal.specs.declared.NonAsciiEscape.{NonAsciiEscape}
 use Rattle.literal.specs.Raw.{odd_behind, bare_dollar, loses_backslash, wide_printed}
 use Rattle.literal.specs.RawWalk.{backslash_goes, raw_turn, raw_walk}
 use Rattle.literal.proofs.Encoded.{script_narrow}
+use Rattle.literal.proofs.RawTurns.{Calm, wide_shape}
 
 -- ASCII is its own bytes
 
 ascii_same : (s : List ℕ) → AllByRecursion (λ c. c < 128) s → encodes s ≡ s
 ascii_same [] h = refl
 ascii_same (c ∷ s) h = rw (encode_1 c h.0) (ap (λ t. c ∷ t) (ascii_same s h.1))
+
+calm_ascii : (s : List ℕ) → AllByRecursion Calm s → AllByRecursion (λ c. c < 128) s
+calm_ascii [] h = tt
+calm_ascii (c ∷ s) h = (h.0.0, calm_ascii s h.1)
+
+pub wide-bytes : (mode : NonAsciiEscape) (odd : Bool) (c : ℕ) → encodes (wide_printed mode odd c) ≡ wide_printed mode odd c
+wide-bytes mode odd c =
+    let (x, e, calm) = wide_shape mode odd c in
+    ascii_same (wide_printed mode odd c) (subst (AllByRecursion (λ c. c < 128)) (sym e) (omega arith, calm_ascii x calm))
 
 -- what stands ahead in the text stands ahead in its bytes
 
@@ -64,7 +74,19 @@ module _ (dollars ascii' : Bool) (mode : NonAsciiEscape) (tags : Bool) where
       ∙ ap (λ x. x ++ encodes (raw_walk dollars ascii' mode tags (odd_behind odd c) c cs))
       (ascii_same (raw_turn dollars ascii' mode tags odd before c cs) (turn_ascii odd before c cs h) ∙ sym (turn_ahead odd before c cs))
 
+-- no run of backslashes ends at a character above 7F
+pub wide_even : (odd : Bool) (c : ℕ) → 0x80 ≤ c → odd_behind odd c ≡ false
+wide_even odd c h = and_right (not odd) (eqb c 0x5C) (ne_eqb c 0x5C (omega arith))
+
 module _ (dollars : Bool) (mode : NonAsciiEscape) (tags : Bool) where
+  -- the bytes of the walk at a character above 7F that is escaped
+  pub step_escaped : (odd : Bool) (before c : ℕ) (cs : List ℕ) → 0x80 ≤ c →
+      encodes (raw_walk dollars true mode tags odd before (c ∷ cs)) ≡ wide_printed mode odd c ++ encodes (raw_walk dollars true mode tags false c cs)
+  step_escaped odd before c cs h =
+      rw (wide_even odd c h, le-leb 0x80 c h)
+      (encodes-append (wide_printed mode odd c) (raw_walk dollars true mode tags false c cs)
+      ∙ ap (λ x. x ++ encodes (raw_walk dollars true mode tags false c cs)) (wide-bytes mode odd c))
+
   -- where characters above 7F stay, the walk over the bytes prints the bytes of the walk over the characters
 
   abbrev bytewise : Bool → ℕ → List ℕ → List ℕ

@@ -7,7 +7,7 @@ use Rattle.std.proofs.ByRecursion.{All-append, All-weaker}
 use Rattle.std.proofs.lemmas.Bool.Decides.{nat_tests}
 use Rattle.ecma262.specs.Lookahead.{opens}
 use Rattle.literal.specs.Escapes.{script, tag}
-use Rattle.literal.specs.Raw.{odd_behind, wide_printed, break_tags, under, ascii_only, free_dollars}
+use Rattle.literal.specs.Raw.{odd_behind, wide_printed, break_tags, under, ascii_only, free_dollars, piece, name}
 use Rattle.literal.specs.RawLaws.{PieceTagless, TaggedTagless, RawAscii}
 use Rattle.literal.specs.RawWalk.{backslash_goes, raw_walk}
 use Rattle.literal.specs.declared.NonAsciiEscape.{NonAsciiEscape}
@@ -88,3 +88,16 @@ module _ (P : ℕ → Type 0) (fine : (c : ℕ) → c < 128 → c ≢ 0x3C → P
       (λ n. cond_both (eqb c 0x2F && eqb before 0x3C && opens script cs && tags) (0x5C ∷ 0x2F ∷ []) (c ∷ []) (AllByRecursion P)
       (λ _. (slash, (fine 0x2F (omega arith) (omega arith), tt))) (λ _. (a.0, tt)))))
       (walk-all dollars ascii mode tags (odd_behind odd c) c cs a.1)
+
+  pub piece-all : (minify ascii : Bool) (text : List ℕ) → AllByRecursion P text → AllByRecursion P (piece minify ascii text)
+  piece-all minify ascii text a = subst (AllByRecursion P) (sym (piece_in_one_walk minify ascii text)) (walk-all minify ascii TemplateRaw true false 0 text a)
+
+  pub name-all : (ascii : Bool) (text : List ℕ) → AllByRecursion P text → AllByRecursion P (name ascii text)
+  name-all ascii text a = subst (AllByRecursion P) (sym (others_in_one_walk ascii text).2) (walk-all false ascii Identifier false false 0 text a)
+
+absent_without : (s : List ℕ) → AllByRecursion (λ c. c ≢ 0x3C) s → Absent s
+absent_without [] h = absent_none
+absent_without (c ∷ s) h = absent_more c s (and_left (eqb 0x3C c) _ (ne_eqb 0x3C c (λ i. h.0 (sym i)))) (absent_without s h.1)
+
+pub name-tagless : (ascii : Bool) (text : List ℕ) → AllByRecursion (λ c. c ≢ 0x3C) text → Absent (name ascii text)
+name-tagless ascii text a = absent_without (name ascii text) (name-all (λ c. c ≢ 0x3C) (λ c l n. n) ascii text a)
